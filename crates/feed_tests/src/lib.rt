@@ -1,0 +1,3 @@
+// Logs whose lines and endings are known, fed to the end.
+#[cfg(test)]
+mod tests;
