@@ -1,0 +1,9 @@
+pub mod Accepts
+pub mod Built
+pub mod Grows
+pub mod Near
+pub mod Receives
+pub mod Reread
+pub mod Rewritten
+pub mod Whole
+pub mod Writes
