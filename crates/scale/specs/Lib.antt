@@ -1,0 +1,5 @@
+pub mod Codes
+pub mod LimitTable
+pub mod Limits
+pub mod Meaning
+pub mod Setting
