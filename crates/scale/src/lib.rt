@@ -6,11 +6,15 @@ ghost use Rattle.scale.specs.Meaning.{Joins, Judges, Laws};
 
 pub mod answers;
 mod limits;
+mod wheels;
 
 pub use answers::Refusal;
 pub use limits::Limit;
 pub use limits::LimitSet;
 pub use limits::LimitSetScaleSet;
+pub use wheels::Wheel;
+pub use wheels::WheelSet;
+pub use wheels::WheelSetScaleSet;
 
 // A scale set has the scales 0 to 7; in a question a higher number is read as 7. Each scale says
 // yes or no to every count. It folds counts into classes, numbers below the scale's size, such that
