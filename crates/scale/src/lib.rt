@@ -6,12 +6,17 @@ ghost use Rattle.scale.specs.Meaning.{Joins, Judges, Laws};
 
 pub mod answers;
 mod limits;
+mod pairs;
+mod plain_scale;
 mod wheels;
 
 pub use answers::Refusal;
 pub use limits::Limit;
 pub use limits::LimitSet;
 pub use limits::LimitSetScaleSet;
+pub use pairs::Paired;
+pub use pairs::PairedScaleSet;
+pub use plain_scale::Plain;
 pub use wheels::Wheel;
 pub use wheels::WheelSet;
 pub use wheels::WheelSetScaleSet;
