@@ -36,20 +36,20 @@ impl Limit {
     pub fn says(self, count: u64) -> bool
         ensures { λ r. ⌜ r ≡ limit.says (self .k) count ⌝ }
     {
-        count > u64::from(self.k)
+        count > u64::from(self.number())
     }
 
     pub fn size(self) -> u16
         ensures { λ r. ⌜ r ≡ limit.size (self .k) ⌝ }
     {
-        self.k + 2
+        self.number() + 2
     }
 
     // The class of a count: counts above the limit share one.
     pub fn fold(self, count: u64) -> u16
         ensures { λ r. ⌜ r ≡ limit.folded (self .k) count ⌝ }
     {
-        count.min(u64::from(self.k) + 1) as u16
+        count.min(u64::from(self.number()) + 1) as u16
     }
 
     // The class of the sum of two counts, from their classes.

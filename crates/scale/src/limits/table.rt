@@ -31,6 +31,7 @@ impl LimitSet {
     pub fn set(&mut self, scale: u8, k: u32) -> Result<(), Refusal>
         ensures refused { λ r. ⌜ errPart r ≡ setting.refusal scale (limit.refusal k) ⌝ }
         ensures after { λ _. ⌜ setting.Changed (setting.refusal scale (limit.refusal k)) (λ l. l .k ≡ k) scale (now (self .entry) .limits) (now (self .exit) .limits) ⌝ }
+        ensures says { λ _. ⌜ setting.Says (setting.refusal scale (limit.refusal k)) scale (limit.says k) (table.meaning (now (self .entry))) (table.meaning (now (self .exit))) ⌝ }
     {
         if scale > 7 {
             return Err(Refusal::Scale);

@@ -32,6 +32,7 @@ impl WheelSet {
     pub fn set(&mut self, scale: u8, bound: u32, period: u32, pattern: u64) -> Result<(), Refusal>
         ensures refused { λ r. ⌜ errPart r ≡ setting.refusal scale (wheel.refusal bound period pattern) ⌝ }
         ensures after { λ _. ⌜ setting.Changed (setting.refusal scale (wheel.refusal bound period pattern)) (Given bound period pattern) scale (now (self .entry) .wheels) (now (self .exit) .wheels) ⌝ }
+        ensures says { λ _. ⌜ setting.Says (setting.refusal scale (wheel.refusal bound period pattern)) scale (wheel.says bound period pattern) (table.meaning (now (self .entry))) (table.meaning (now (self .exit))) ⌝ }
     {
         if scale > 7 {
             return Err(Refusal::Scale);
