@@ -1,9 +1,8 @@
 -- What a limit set means. Assumes nothing.
 use mathlib.Core.Bool.{Bool}
-use mathlib.Core.Path.{_≡_, refl, ap}
+use mathlib.Core.Path.{_≡_, ap}
 use Prim.Native.Nat.{ℕ, _≤_, min}
 use native.Mathlib.Omega.{arith}
-use lib.Dec.{lit≤}
 use lib.ListN.{getD}
 use Rattle.scale.specs.declared.limits.Limit.{Limit}
 use Rattle.scale.specs.declared.limits.LimitSet.{LimitSet}

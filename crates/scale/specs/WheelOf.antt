@@ -1,7 +1,9 @@
--- The same of a wheel that exists. Assumes nothing.
+-- The numbers of a wheel, and what they mean. Assumes nothing.
 use mathlib.Core.Bool.{Bool}
 use mathlib.Core.Path.{_≡_}
 use Prim.Native.Nat.{ℕ}
+use Rattle.std.specs.declared.option.Option.{Option}
+use Rattle.scale.specs.declared.answers.Refusal.{Refusal}
 use Rattle.scale.specs.declared.wheels.Wheel.{Wheel}
 use Rattle.scale.specs.Wheels as wheel
 
@@ -22,3 +24,6 @@ size w = wheel.size (w .bound) (w .period)
 
 abbrev pub joined : Wheel → ℕ → ℕ → ℕ
 joined w a b = wheel.joined (w .bound) (w .period) a b
+
+abbrev pub refusal : Wheel → Option Refusal
+refusal w = wheel.refusal (w .bound) (w .period) (w .pattern)

@@ -35,9 +35,11 @@ pub trait ScaleSet {
     // How many classes a scale has.
     ghost sizes: { Self → ℕ → ℕ };
 
-    // What each set owes: 1 to 1,024 classes, foldings below the size, and no scale above 7.
+    // What each set owes: 1 to 1,024 classes, every count's class below the size, and a scale
+    // above 7 read as 7.
     ghost laws: { Laws meaning folding sizes };
 
+    // How many classes the scale has.
     fn size(&self, scale: u8) -> u16
         ensures { λ r. ⌜ r ≡ sizes (now (self .entry)) scale ⌝ };
 

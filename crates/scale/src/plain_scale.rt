@@ -3,6 +3,7 @@ ghost use Prim.Native.Nat.{ℕ};
 ghost use mathlib.Core.Path.{_≡_};
 ghost use Rattle.std.specs.Results.{errPart};
 ghost use Rattle.std.specs.Vec.{made};
+ghost use Rattle.std.specs.declared.option.Option.the-variants.{None};
 ghost use Rattle.scale.specs.Limits as limit;
 ghost use Rattle.scale.specs.Plain as plain;
 ghost use Rattle.scale.specs.Wheels as wheel;
@@ -41,9 +42,10 @@ impl Plain {
         })
     }
 
-    // What the scale says to a count.
+    // What the scale says to a count. There is no plain scale that would be refused.
     pub fn says(self, count: u64) -> bool
-        ensures { λ r. ⌜ r ≡ plain.says self count ⌝ }
+        ensures value { λ r. ⌜ r ≡ plain.says self count ⌝ }
+        ensures lawful { λ _. ⌜ plain.refusal self ≡ None ⌝ }
     {
         match self.kind {
             Kind::Limit(limit) => limit.says(count),

@@ -6,8 +6,8 @@ mod table;
 
 pub use table::WheelSetScaleSet;
 
-// A wheel takes the counts below its bound apart, and from there on every count with the one a
-// period later. The pattern's bits are its answers: bit c for the counts of class c.
+// Counts below the bound are classes of their own; from the bound on, counts a period apart share a
+// class. Bit c of the pattern is what the wheel says to the counts of class c.
 #[derive(Clone, Copy)]
 pub struct Wheel {
     bound: u8,
