@@ -1,0 +1,10 @@
+pub mod Codes
+pub mod LimitTable
+pub mod Limits
+pub mod Meaning
+pub mod Pairs
+pub mod Plain
+pub mod Setting
+pub mod WheelOf
+pub mod WheelTable
+pub mod Wheels

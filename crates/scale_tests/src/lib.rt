@@ -1,0 +1,3 @@
+// Scales at the edges of what they may be, and at what they say.
+#[cfg(test)]
+mod tests;
