@@ -1,4 +1,7 @@
 // The lines of a pump log, and the layered fault that every part above them tells.
+ghost use mathlib.Core.Path.{_≡_};
+ghost use Rattle.line.specs.Marks.{unknown};
+
 mod display;
 
 pub use display::LineDisplay;
@@ -9,6 +12,18 @@ pub use display::LineDisplay;
 pub struct Line {
     pub time: u32,
     pub marks: u32,
+}
+
+impl Line {
+    // How many marks are known.
+    pub const KNOWN: u32 = 26;
+
+    // Whether a mark is set that is not known.
+    pub fn has_unknown(self) -> bool
+        ensures { λ r. ⌜ r ≡ unknown (self .marks) ⌝ }
+    {
+        self.marks >= 1 << Self::KNOWN
+    }
 }
 
 // What went wrong, and where: the layer that tells it, its service number, and a place.

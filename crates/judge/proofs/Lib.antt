@@ -1,0 +1,3 @@
+pub mod Downs
+pub mod Unrolls
+pub mod Walks

@@ -1,0 +1,4 @@
+pub mod Codes
+pub mod Counting
+pub mod Refused
+pub mod Scales
