@@ -1,8 +1,10 @@
 // Truth by plain counting: over formulas of smaller number, and places further back.
+ghost use mathlib.Core.Bool.{_&&_};
 ghost use mathlib.Core.Path.{_≡_};
 ghost use Prim.Native.Nat.{_-_, _≤_, _<_};
+ghost use lib.Dec.{ltb};
 ghost use lib.ListN.{length};
-ghost use Rattle.truth.specs.Truth.{at, holds as truth};
+ghost use Rattle.truth.specs.Truth.{at, holds as truth, within};
 ghost use Rattle.judge.specs.Counting.{Judgeable, Kept, sinceDown, Unreset, countDown};
 ghost use Rattle.judge.specs.Scales.{meaning};
 
@@ -19,6 +21,14 @@ fn gap(log: &[Line], j: usize, h: usize) -> u32
     log[j - 1].time.saturating_sub(log[h - 1].time)
 }
 
+// Whether `j` is not the first place, and the gap to the place before lies in the window.
+fn follows(log: &[Line], window: Window, j: usize) -> bool
+    requires { ⌜ 1 ≤ j ⌝ ∗ ⌜ j ≤ length (now log) ⌝ }
+    ensures { λ r. ⌜ r ≡ (ltb 1 j && within (now (log .entry)) window j (j - 1)) ⌝ }
+{
+    j > 1 && window.contains(gap(log, j, j - 1))
+}
+
 // Whether the formula `n` holds at the place `j`.
 pub fn holds(formulas: &[Formula], scales: &[Plain], log: &[Line], n: usize, j: usize) -> bool
     requires sound { ⌜ Judgeable (now formulas) (now log) ⌝ ∗ ⌜ length (now scales) ≡ 8 ⌝ }
@@ -33,7 +43,7 @@ pub fn holds(formulas: &[Formula], scales: &[Plain], log: &[Line], n: usize, j: 
             holds(formulas, scales, log, a as usize, j) || holds(formulas, scales, log, b as usize, j)
         }
         Formula::Previous { a, window } => {
-            j > 1 && window.contains(gap(log, j, j - 1)) && holds(formulas, scales, log, a as usize, j - 1)
+            follows(log, window, j) && holds(formulas, scales, log, a as usize, j - 1)
         }
         Formula::Since { a, b, window } => since(formulas, scales, log, a, b, window, j, j),
         Formula::Count { a, b, scale, window } => {
