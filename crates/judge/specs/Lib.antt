@@ -1,4 +1,5 @@
 pub mod Codes
 pub mod Counting
+pub mod Judged
 pub mod Refused
 pub mod Scales

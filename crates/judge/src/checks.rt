@@ -32,7 +32,7 @@ fn falls(log: &[Line]) -> bool
 }
 
 // Why a formula is not judged at a place of a log.
-pub fn refusal(formulas: &[Formula], log: &[Line], n: usize, place: usize) -> Option<Refusal>
+pub(crate) fn refusal(formulas: &[Formula], log: &[Line], n: usize, place: usize) -> Option<Refusal>
     ensures { λ r. ⌜ r ≡ refused.refusal (now (formulas .entry)) (now (log .entry)) n place ⌝ }
 {
     if any_unknown(log) {

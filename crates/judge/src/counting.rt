@@ -30,7 +30,7 @@ fn follows(log: &[Line], window: Window, j: usize) -> bool
 }
 
 // Whether the formula `n` holds at the place `j`.
-pub fn holds(formulas: &[Formula], scales: &[Plain], log: &[Line], n: usize, j: usize) -> bool
+pub(crate) fn holds(formulas: &[Formula], scales: &[Plain], log: &[Line], n: usize, j: usize) -> bool
     requires sound { ⌜ Judgeable (now formulas) (now log) ⌝ ∗ ⌜ length (now scales) ≡ 8 ⌝ }
     requires within { ⌜ n < length (now formulas) ⌝ ∗ ⌜ 1 ≤ j ⌝ ∗ ⌜ j ≤ length (now log) ⌝ }
     ensures { λ r. ⌜ r ≡ truth (meaning (now (scales .entry))) (now (formulas .entry)) (now (log .entry)) n j ⌝ }
