@@ -83,7 +83,7 @@ fn count(formulas: &[Formula], scales: &[Plain], log: &[Line], a: u8, b: u8, win
         return count(formulas, scales, log, a, b, window, j, h - 1);
     }
     if holds(formulas, scales, log, a as usize, h) {
-        return 0;
+        return 0; // nor does the resetting line itself count
     }
     let more = count(formulas, scales, log, a, b, window, j, h - 1);
     if holds(formulas, scales, log, b as usize, h) {
