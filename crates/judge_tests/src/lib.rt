@@ -1,0 +1,3 @@
+// Logs whose judgement and refusals are known.
+#[cfg(test)]
+mod tests;
