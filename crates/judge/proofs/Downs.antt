@@ -28,13 +28,13 @@ every-more a zero h le e t = absurd (omega arith)
 every-more a (suc j) h le e t =
     let parts = and-parts (not (ltb (suc h) (suc j)) || a (suc j)) (every (suc h) j a) e in
     let here : a (suc j) ≡ true =
-        ⊎-elim
-        (λ lt. ap (λ (b : Bool). not b || a (suc j)) (sym (lt-ltb (suc h) (suc j) lt)) ∙ parts .0)
-        (λ ge. let same : suc j ≡ suc h = omega arith in ap a same ∙ t)
-        (cases-lt (suc h) (suc j))
+    ⊎-elim
+    (λ lt. ap (λ (b : Bool). not b || a (suc j)) (sym (lt-ltb (suc h) (suc j) lt)) ∙ parts .0)
+    (λ ge. let same : suc j ≡ suc h = omega arith in ap a same ∙ t)
+    (cases-lt (suc h) (suc j))
     in
     let rest : every h j a ≡ true =
-        ⊎-elim (λ lt. every-more a j h (omega arith) (parts .1) t) (λ ge. every-last j a h (omega arith)) (cases-lt (suc h) (suc j))
+    ⊎-elim (λ lt. every-more a j h (omega arith) (parts .1) t) (λ ge. every-last j a h (omega arith)) (cases-lt (suc h) (suc j))
     in
     ap₂ _&&_ (ap (λ (b : Bool). not (ltb h (suc j)) || b) here ∙ or-true (not (ltb h (suc j)))) rest
 
@@ -45,9 +45,9 @@ every-broken a (suc j) h i lt le e =
     ⊎-elim
     (λ below. and-right _ _ (every-broken a j h i lt (omega arith) e))
     (λ ge.
-        let same : suc j ≡ i = omega arith in
-        let here : (not (ltb h (suc j)) || a (suc j)) ≡ false = λ k. not (lt-ltb h (suc j) (omega arith) k) || (ap a same ∙ e) k in
-        and-left _ _ here)
+    let same : suc j ≡ i = omega arith in
+    let here : (not (ltb h (suc j)) || a (suc j)) ≡ false = λ k. not (lt-ltb h (suc j) (omega arith) k) || (ap a same ∙ e) k in
+    and-left _ _ here)
     (cases-lt i (suc j))
 
 some-none : (j : ℕ) (p : ℕ → Bool) → ((h : ℕ) → 1 ≤ h → h ≤ j → p h ≡ false) → some j p ≡ false

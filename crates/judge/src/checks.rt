@@ -1,7 +1,6 @@
 // What is checked of a held log before it is judged.
 ghost use mathlib.Core.Path.{_≡_};
 ghost use Rattle.judge.specs.Refused as refused;
-
 use crate::Refusal;
 use line::Line;
 use sheet::Formula;

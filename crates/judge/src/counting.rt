@@ -7,7 +7,6 @@ ghost use lib.ListN.{length};
 ghost use Rattle.truth.specs.Truth.{at, holds as truth, within};
 ghost use Rattle.judge.specs.Counting.{Judgeable, Kept, sinceDown, Unreset, countDown};
 ghost use Rattle.judge.specs.Scales.{meaning};
-
 use line::Line;
 use scale::Plain;
 use sheet::Formula;
@@ -30,7 +29,13 @@ fn follows(log: &[Line], window: Window, j: usize) -> bool
 }
 
 // Whether the formula `n` holds at the place `j`.
-pub(crate) fn holds(formulas: &[Formula], scales: &[Plain], log: &[Line], n: usize, j: usize) -> bool
+pub(crate) fn holds(
+    formulas: &[Formula],
+    scales: &[Plain],
+    log: &[Line],
+    n: usize,
+    j: usize,
+) -> bool
     requires sound { ⌜ Judgeable (now formulas) (now log) ⌝ ∗ ⌜ length (now scales) ≡ 8 ⌝ }
     requires within { ⌜ n < length (now formulas) ⌝ ∗ ⌜ 1 ≤ j ⌝ ∗ ⌜ j ≤ length (now log) ⌝ }
     ensures { λ r. ⌜ r ≡ truth (meaning (now (scales .entry))) (now (formulas .entry)) (now (log .entry)) n j ⌝ }
@@ -40,20 +45,33 @@ pub(crate) fn holds(formulas: &[Formula], scales: &[Plain], log: &[Line], n: usi
         Formula::Mark { mark } => (log[j - 1].marks >> mark) % 2 == 1,
         Formula::Not { a } => !holds(formulas, scales, log, a as usize, j),
         Formula::Or { a, b } => {
-            holds(formulas, scales, log, a as usize, j) || holds(formulas, scales, log, b as usize, j)
+            holds(formulas, scales, log, a as usize, j)
+                || holds(formulas, scales, log, b as usize, j)
         }
         Formula::Previous { a, window } => {
             follows(log, window, j) && holds(formulas, scales, log, a as usize, j - 1)
         }
         Formula::Since { a, b, window } => since(formulas, scales, log, a, b, window, j, j),
-        Formula::Count { a, b, scale, window } => {
-            scales[scale as usize].says(count(formulas, scales, log, a, b, window, j, j))
-        }
+        Formula::Count {
+            a,
+            b,
+            scale,
+            window,
+        } => { scales[scale as usize].says(count(formulas, scales, log, a, b, window, j, j)) }
     }
 }
 
 // Whether some place up to `h` makes since true at `j`, where a has held after `h`.
-fn since(formulas: &[Formula], scales: &[Plain], log: &[Line], a: u8, b: u8, window: Window, j: usize, h: usize) -> bool
+fn since(
+    formulas: &[Formula],
+    scales: &[Plain],
+    log: &[Line],
+    a: u8,
+    b: u8,
+    window: Window,
+    j: usize,
+    h: usize,
+) -> bool
     requires sound { ⌜ Judgeable (now formulas) (now log) ⌝ ∗ ⌜ length (now scales) ≡ 8 ⌝ }
     requires within { ⌜ a < length (now formulas) ⌝ ∗ ⌜ b < length (now formulas) ⌝ ∗ ⌜ h ≤ j ⌝ ∗ ⌜ 1 ≤ j ⌝ ∗ ⌜ j ≤ length (now log) ⌝ }
     requires kept { ⌜ Kept (now log) (truth (meaning (now scales)) (now formulas) (now log) a) (truth (meaning (now scales)) (now formulas) (now log) b) window j h ⌝ }
@@ -65,11 +83,21 @@ fn since(formulas: &[Formula], scales: &[Plain], log: &[Line], a: u8, b: u8, win
     if window.contains(gap(log, j, h)) && holds(formulas, scales, log, b as usize, h) {
         return true;
     }
-    holds(formulas, scales, log, a as usize, h) && since(formulas, scales, log, a, b, window, j, h - 1)
+    holds(formulas, scales, log, a as usize, h)
+        && since(formulas, scales, log, a, b, window, j, h - 1)
 }
 
 // How many places up to `h` count at `j`, where none after `h` resets the count.
-fn count(formulas: &[Formula], scales: &[Plain], log: &[Line], a: u8, b: u8, window: Window, j: usize, h: usize) -> u64
+fn count(
+    formulas: &[Formula],
+    scales: &[Plain],
+    log: &[Line],
+    a: u8,
+    b: u8,
+    window: Window,
+    j: usize,
+    h: usize,
+) -> u64
     requires sound { ⌜ Judgeable (now formulas) (now log) ⌝ ∗ ⌜ length (now scales) ≡ 8 ⌝ }
     requires within { ⌜ a < length (now formulas) ⌝ ∗ ⌜ b < length (now formulas) ⌝ ∗ ⌜ h ≤ j ⌝ ∗ ⌜ 1 ≤ j ⌝ ∗ ⌜ j ≤ length (now log) ⌝ }
     requires unreset { ⌜ Unreset (now log) (truth (meaning (now scales)) (now formulas) (now log) a) (truth (meaning (now scales)) (now formulas) (now log) b) window j h ⌝ }

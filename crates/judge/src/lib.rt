@@ -13,7 +13,13 @@ use scale::Plain;
 use sheet::Sheet;
 
 // Whether the formula holds at the place, with the scales as the meanings; or why it is not judged.
-pub fn judge(sheet: &Sheet, scales: &[Plain; 8], log: &[Line], formula: usize, place: usize) -> Result<bool, Refusal>
+pub fn judge(
+    sheet: &Sheet,
+    scales: &[Plain; 8],
+    log: &[Line],
+    formula: usize,
+    place: usize,
+) -> Result<bool, Refusal>
     ensures { λ r. ⌜ r ≡ judged (contents.of (now (sheet .entry)) .formulas) (now (scales .entry)) (now (log .entry)) formula place ⌝ }
 {
     match checks::refusal(sheet.formulas(), log, formula, place) {

@@ -7,7 +7,6 @@ ghost use Rattle.std.specs.Of.Vec.{vec-cap, vec-items, vec-len};
 ghost use Rattle.std.specs.Options.{Cases};
 ghost use Rattle.sheet.specs.Contents as contents;
 ghost use Rattle.judged.specs.Held as held;
-
 use bench::Bench;
 use feed::Ending;
 use feed::Feed;

@@ -137,10 +137,10 @@ since-returns-then-holds-2 t c =
     let h = c .args .h in
     let one : 1 ≤ h = omega arith in
     let here : (within log w j h && tb h) ≡ false =
-        elim (c .else-contains .came) [
-          since-else-contains·by·then-contains·else-holds v ↦ and-right _ _ (sym (v .if-holds .ensures tt))
-        | since-else-contains·by·else-contains v ↦ and-left _ _ (ap (inside w) (sym (c .gap .ensures)) ∙ sym (v .if-contains .ensures tt))
-        ]
+    elim (c .else-contains .came) [
+      | since-else-contains·by·then-contains·else-holds v ↦ and-right _ _ (sym (v .if-holds .ensures tt))
+      | since-else-contains·by·else-contains v ↦ and-left _ _ (ap (inside w) (sym (c .gap .ensures)) ∙ sym (v .if-contains .ensures tt))
+    ]
     in
     on-at log ta tb w j h one (c .pre .within .1 .1 .0) (c .pre .kept) here (c .since .result) (c .since .ensures)
 
@@ -154,10 +154,10 @@ since-returns-else-holds-2 t c =
     let h = c .args .h in
     let one : 1 ≤ h = omega arith in
     let here : (within log w j h && tb h) ≡ false =
-        elim (c .else-contains .came) [
-          since-else-contains·by·then-contains·else-holds v ↦ and-right _ _ (sym (v .if-holds .ensures tt))
-        | since-else-contains·by·else-contains v ↦ and-left _ _ (ap (inside w) (sym (c .gap .ensures)) ∙ sym (v .if-contains .ensures tt))
-        ]
+    elim (c .else-contains .came) [
+      | since-else-contains·by·then-contains·else-holds v ↦ and-right _ _ (sym (v .if-holds .ensures tt))
+      | since-else-contains·by·else-contains v ↦ and-left _ _ (ap (inside w) (sym (c .gap .ensures)) ∙ sym (v .if-contains .ensures tt))
+    ]
     in
     c .if-holds-2 .left ∙ broken-at log ta tb w j h one (c .pre .within .1 .1 .0) (c .pre .kept) here (sym (c .if-holds-2 .ensures tt))
 
