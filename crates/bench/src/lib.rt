@@ -1,4 +1,6 @@
 // The bench sheet and its limits, and the worked examples of the logic.
+#![tactic(auto)]
+
 ghost use Rattle.std.specs.Prelude.{◌≡◌, IfOk};
 ghost use Rattle.sheet.specs.Contents as contents;
 ghost use Rattle.bench.specs.Bench as bench;

@@ -1,4 +1,6 @@
 // Feeds: what delivers the lines of a log, one by one, from its bytes.
+#![tactic(auto)]
+
 ghost use Rattle.std.specs.Prelude.{◌≡◌, ℕ, ◌+◌, List, drop, slice_index};
 ghost use Rattle.line.specs.declared.Line.{Line};
 ghost use Rattle.feed.specs.declared.answers.Ending.{Ending};

@@ -1,4 +1,6 @@
 // The judge: whether a formula holds at a place of a held log, by counting plainly.
+#![tactic(auto)]
+
 ghost use Rattle.std.specs.Prelude.{◌≡◌};
 ghost use Rattle.sheet.specs.Contents as contents;
 ghost use Rattle.judge.specs.Judged.{judged};

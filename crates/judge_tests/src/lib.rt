@@ -1,3 +1,5 @@
 // Logs whose judgement and refusals are known.
+#![tactic(auto)]
+
 #[cfg(test)]
 mod tests;

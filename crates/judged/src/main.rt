@@ -1,4 +1,6 @@
 // Judges a text log from standard input at every place, by the rules of the bench sheet.
+#![tactic(auto)]
+
 ghost use Rattle.std.specs.Prelude.{◌≡◌, ◌<◌, ◌≤◌, [], ◌++◌, length, vec_len, vec_capacity, MatchOption};
 ghost use Rattle.sheet.specs.Contents as contents;
 ghost use Rattle.judged.specs.Held as held;

@@ -18,7 +18,7 @@ impl fmt::Display for Line {
 
 // The letters of the known marks that are set, or a hyphen where none is.
 fn write_marks<W: fmt::Write>(marks: u32, f: &mut fmt::Formatter<W>) -> fmt::Result
-    ensures { WritesOnOk write_str_gives f.old result (or_hyphen (letters_below 26 marks)) f.new }
+    ensures { WritesOnOk W.write_str_gives f.old result (or_hyphen (letters_below 26 marks)) f.new }
 {
     let mut none = true;
     for i in 0..26u8 {

@@ -1,4 +1,6 @@
 // The lines of a pump log, and the layered fault that every part above them tells.
+#![tactic(auto)]
+
 ghost use Rattle.std.specs.Prelude.{◌≡◌};
 ghost use Rattle.line.specs.Marks.{unknown};
 

@@ -1,4 +1,6 @@
 // Reads a text log from standard input and prints its lines, then how it ended.
+#![tactic(auto)]
+
 ghost use Rattle.std.specs.Prelude.{◌≡◌, ◌^◌, ◌<◌, [], length, IfOk, OnOk};
 
 use feed::{Ending, Feed, Next, TextFeed};

@@ -1,4 +1,6 @@
 // Scales: what a count means, and how counts without bound are folded into few classes.
+#![tactic(auto)]
+
 ghost use Rattle.std.specs.Prelude.{◌≡◌, ℕ, ◌<◌, Bool};
 ghost use Rattle.scale.specs.Meaning.{Joins, Judges, Laws};
 

@@ -1,4 +1,6 @@
 // Sheets: the formulas and rules that are asked of a log.
+#![tactic(auto)]
+
 pub mod answers;
 mod formulas;
 mod limits;

@@ -1,4 +1,6 @@
 // When a formula holds at a place of a log: the definition, and its laws.
+#![tactic(auto)]
+
 ghost use Rattle.truth.specs.Laws.{LooksBack, PastReach};
 
 // That the definition looks back only, and that past the reach nothing matters.

@@ -1,4 +1,6 @@
 // Windows: summaries of the lines whose age lies in a window, as the log goes by and is not kept.
+#![tactic(auto)]
+
 ghost use Rattle.std.specs.Prelude.{◌≡◌, List, [], ◌∷◌, ◌++◌};
 ghost use Rattle.window.specs.declared.Truths.{Truths};
 ghost use Rattle.window.specs.Summaries.{Joins};

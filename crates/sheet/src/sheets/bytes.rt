@@ -77,14 +77,6 @@ impl Sheet {
         self.cells = 0;
     }
 
-    fn clear_if(&mut self, refused: bool)
-        ensures { contents.of self.new ≡ (if refused then contents.empty else contents.of self.old) }
-    {
-        if refused {
-            self.clear();
-        }
-    }
-
     // Adds the first `n` formulas of the bytes, until one is refused.
     fn add_formulas(&mut self, bytes: &[u8], n: usize) -> Result<(), ReadRefusal>
         requires { (8 * n ≤ length bytes.now) × (n < 256) }
@@ -139,7 +131,9 @@ impl Sheet {
     {
         self.clear();
         let answer = self.add_all(bytes);
-        self.clear_if(answer.is_err());
+        if answer.is_err() {
+            self.clear();
+        }
         answer
     }
 

@@ -6,5 +6,5 @@ use Rattle.line.proofs.display.LineDisplay.fmt.Goals as goal
 pub returns-clause-writes : goal.returns-clause-writes
 returns-clause-writes g c =
     λ p ok.
-    let front = c.in-ok-write.ensures.shows p refl in
-    has_written_of_eq _ _ _ _ _ (append_assoc (decimal c.args.self.now.time) (32 ∷ []) _) (has_written_append _ _ _ _ _ _ front (c.write-marks.ensures front.plain ok))
+    let front = c.in_ok-write.ensures.writes p refl in
+    has_written_of_eq _ _ _ _ _ (append_assoc (decimal c.args.self.now.time) (32 ∷ []) _) (has_written_append _ _ _ _ _ _ front (c.write_marks.ensures front.plain ok))
