@@ -1,19 +1,19 @@
 -- What is not refused is lawful, and its fields come back from its formula. Assumes nothing.
-use Rattle.std.proofs.Common.{◌≡◌, ℕ, zero, suc, ◌+◌, ◌<◌, ◌≤◌, Bool, true, false, cond, not, ◌&&◌, ◌||◌, eqb, ltb, leb, ◌⊎◌, List, [], ◌∷◌, ◌++◌, length, get_or, is_some, Some, None, Option, unwrap_or, sym, refl, ap, ◌∙◌, subst, inl, inr, ⊎_elim, arith, length-append}
+use Rattle.std.proofs.Common.{◌≡◌, ℕ, ◌+◌, ◌<◌, ◌≤◌, Bool, true, false, cond, not, ◌&&◌, eqb, ltb, leb, [], ◌∷◌, ◌++◌, length, is_some, Some, None, Option, unwrap_or, sym, refl, subst, ⊎_elim, arith}
 use Rattle.std.proofs.lemmas.List.{get_or_append_left, get_or_push, length_push}
-use Rattle.std.proofs.lemmas.Bool.{and_from, and_left, and_parts, and_right, and_cases, cases_lt, cond_both, eqb-true, leb-false, leb-true, le-leb, lt-ltb, ltb-false, ltb-true, not-false, or_parts, false≢true, true≢false}
+use Rattle.std.proofs.lemmas.Bool.{and_from, and_parts, cases_lt, eqb-true, leb-false, le-leb, lt-ltb, ltb-false, not-false, or_parts, true≢false}
 use Rattle.sheet.specs.declared.answers.Refusal.{Refusal}
 use Rattle.sheet.specs.declared.answers.Refusal.TheVariants.{Full, Kind, Spare, Mark as NoMark, Forward, Window as NoWindow, Scale, Cells}
 use Rattle.sheet.specs.declared.formulas.Fields.{Fields}
 use Rattle.sheet.specs.declared.formulas.Formula.{Formula}
-use Rattle.sheet.specs.declared.formulas.Formula.TheVariants.{Never, Mark, Not, Or, Previous, Since, Count}
+use Rattle.sheet.specs.declared.formulas.Formula.TheVariants.{Never}
 use Rattle.sheet.specs.declared.limits.Limits.{Limits}
 use Rattle.sheet.specs.declared.windows.Window.{Window}
 use Rattle.sheet.specs.declared.windows.Window.TheVariants.{Closed, Open}
 use Rattle.sheet.specs.Conditions.{Conditions, lawful_at}
 use Rattle.sheet.specs.Contents.{Contents}
-use Rattle.sheet.specs.Formulas.{cells_of, fields_of, formula_of, total, used, window_in}
-use Rattle.sheet.specs.Refused.{fault, forward, idle, or_else, refusal, rule_refusal, spare, unwindowed}
+use Rattle.sheet.specs.Formulas.{cells_of, fields_of, formula_of, total}
+use Rattle.sheet.specs.Refused.{fault, forward, or_else, refusal, rule_refusal, spare, unwindowed}
 use Rattle.sheet.specs.Windows.{is_closed, is_open, lawful_window, raw_high, raw_low, window_of}
 use Rattle.sheet.proofs.Built.{total-push}
 

@@ -1,5 +1,5 @@
 -- A value for each formula, made from those before it: one formula more is one value more. Assumes nothing.
-use Rattle.std.proofs.Common.{◌≡◌, ℕ, ◌+◌, List, [], ◌∷◌, ◌++◌, length, sym, refl, ap, ◌∙◌, add-zero, zero-add, arith, length-append}
+use Rattle.std.proofs.Common.{◌≡◌, ◌+◌, List, [], ◌∷◌, ◌++◌, length, sym, refl, ◌∙◌, add-zero, zero-add, arith, length-append}
 use Rattle.sheet.specs.declared.formulas.Formula.{Formula}
 use Rattle.sheet.specs.Formulas.{built, built_on, cells_of, total}
 

@@ -1,23 +1,22 @@
 -- The bytes of a sheet are read as that sheet. Assumes nothing.
-use Rattle.std.proofs.Common.{◌≡◌, ℕ, zero, suc, ◌+◌, ◌-◌, ◌*◌, ◌/◌, ◌%◌, ◌<◌, ◌≤◌, Bool, true, false, cond, not, ◌&&◌, ◌||◌, eqb, ltb, leb, List, [], ◌∷◌, ◌++◌, map, length, get_or, take, drop, is_some, Some, None, Ok, Err, Option, Result, unwrap_or, sym, refl, ap, ◌∙◌, subst, ⊎_elim, append_assoc, append-nil, add-zero, arith, length-append}
+use Rattle.std.proofs.Common.{◌≡◌, ℕ, suc, ◌+◌, ◌-◌, ◌*◌, ◌/◌, ◌%◌, ◌<◌, ◌≤◌, Bool, true, false, cond, not, ltb, leb, List, [], ◌∷◌, ◌++◌, map, length, get_or, take, drop, is_some, Some, None, Ok, Option, Result, unwrap_or, sym, refl, ap, ◌∙◌, subst, append_assoc, append-nil, add-zero, arith, length-append}
 use Rattle.std.specs.List.{flat_map}
 use Rattle.std.proofs.lemmas.List.{drop_at, get_or-append-add, take_at}
-use Rattle.std.proofs.lemmas.Bool.{and_from, and_parts, cond-false, cond-true, eq-eqb, eqb-true, le-leb, le-ltb, leb-true, lt-leb, lt-ltb, ltb-true, ne_eqb, or_from}
+use Rattle.std.proofs.lemmas.Bool.{and_from, and_parts, cond-false, cond-true, eq-eqb, le-leb, le-ltb, leb-true, lt-leb, ltb-true, or_from}
 use Rattle.sheet.specs.declared.answers.ReadRefusal.{ReadRefusal}
-use Rattle.sheet.specs.declared.answers.Refusal.{Refusal}
-use Rattle.sheet.specs.declared.answers.Refusal.TheVariants.{Full, Forward, Mark as NoMark, Window as NoWindow, Scale, Cells}
+use Rattle.sheet.specs.declared.answers.Refusal.TheVariants.{Forward, Window as NoWindow, Scale}
 use Rattle.sheet.specs.declared.formulas.Fields.{Fields}
 use Rattle.sheet.specs.declared.formulas.Formula.{Formula}
 use Rattle.sheet.specs.declared.formulas.Formula.TheVariants.{Never, Mark, Not, Or, Previous, Since, Count}
 use Rattle.sheet.specs.declared.limits.Limits.{Limits}
 use Rattle.sheet.specs.declared.windows.Window.{Window}
 use Rattle.sheet.specs.declared.windows.Window.TheVariants.{Closed, Open}
-use Rattle.sheet.specs.Bytes.{add_formulas, add_rules, bytes_of, counts, field_bytes, fields_at, fields_from, formula_bytes, pair, reading, then_read, trailer}
-use Rattle.sheet.specs.Conditions.{Conditions, EachLawful, EachNamed, lawful_at, server}
-use Rattle.sheet.specs.Contents.{Contents, empty, with_formula, with_rule}
+use Rattle.sheet.specs.Bytes.{add_formulas, add_rules, bytes_of, counts, field_bytes, fields_at, fields_from, formula_bytes, reading, then_read, trailer}
+use Rattle.sheet.specs.Conditions.{Conditions, lawful_at, server}
+use Rattle.sheet.specs.Contents.{Contents, empty, with_formula}
 use Rattle.sheet.specs.Formulas.{cells_of, fields_of, formula_of, total}
-use Rattle.sheet.specs.Refused.{fault, or_else, refusal, rule_refusal}
-use Rattle.sheet.specs.Windows.{is_closed, is_open, lawful_window, raw_high, raw_low, window_of}
+use Rattle.sheet.specs.Refused.{fault}
+use Rattle.sheet.specs.Windows.{lawful_window, raw_high, raw_low, window_of}
 use Rattle.sheet.proofs.Built.{total-push}
 use Rattle.sheet.proofs.Grows.{told_no_rule, told_none}
 use Rattle.sheet.proofs.Receives.{formula_on, rule_on}

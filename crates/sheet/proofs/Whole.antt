@@ -1,5 +1,5 @@
 -- Reading as a whole, as its contract says it. Assumes nothing.
-use Rattle.std.proofs.Common.{◌≡◌, ℕ, ◌+◌, ◌-◌, ◌*◌, ◌<◌, Bool, true, false, cond, List, get_or, take, drop, is_err, Ok, Err, Result, sym, refl, ap, ◌∙◌, subst, arith}
+use Rattle.std.proofs.Common.{◌≡◌, ℕ, ◌+◌, ◌-◌, ◌*◌, ◌<◌, true, false, List, get_or, take, drop, is_err, Ok, Err, Result, sym, refl, ap, ◌∙◌, subst, arith}
 use Rattle.std.proofs.lemmas.Bool.{false≢true, true≢false}
 use Rattle.sheet.specs.declared.answers.ReadRefusal.{ReadRefusal}
 use Rattle.sheet.specs.Bytes.{add_formulas, add_rules, Brought, bytes_of, counts, fields_from, reading, Received, then_read}
@@ -40,7 +40,7 @@ module _ (bs : List ℕ) where
   finds_of r after h c lawful e =
       subst (λ (all : Result Contents ReadRefusal). Received all r after) (ap (reading server) (sym e) ∙ reread c lawful) h
 
-  read_ok : (r : Result (Unit {0}) ReadRefusal) (after : Contents) → is_err r ≡ false → ((k : ℕ) → get_or bs k 0 < 256) → Brought (reading server bs) r after → Reads r after
+  pub read_ok : (r : Result (Unit {0}) ReadRefusal) (after : Contents) → is_err r ≡ false → ((k : ℕ) → get_or bs k 0 < 256) → Brought (reading server bs) r after → Reads r after
   read_ok r after ok fits h =
       let value = received_ok (reading server bs) r after ok h in
       record {
@@ -49,7 +49,7 @@ module _ (bs : List ℕ) where
         finds = finds_of r after value;
       }
 
-  read_err : (r : Result (Unit {0}) ReadRefusal) (mid after : Contents) → is_err r ≡ true → after ≡ empty → Brought (reading server bs) r mid → Reads r after
+  pub read_err : (r : Result (Unit {0}) ReadRefusal) (mid after : Contents) → is_err r ≡ true → after ≡ empty → Brought (reading server bs) r mid → Reads r after
   read_err r mid after err none h =
       let value = received_err (reading server bs) r mid after err none h in
       record {
@@ -58,7 +58,19 @@ module _ (bs : List ℕ) where
         finds = finds_of r after value;
       }
 
-  -- a sheet is emptied where the reading was refused
-  pub read_all : (refused : Bool) (r : Result (Unit {0}) ReadRefusal) (mid after : Contents) → refused ≡ is_err r → after ≡ cond refused empty mid → ((k : ℕ) → get_or bs k 0 < 256) → Brought (reading server bs) r mid → Reads r after
-  read_all true r mid after err none fits h = read_err r mid after (sym err) none h
-  read_all false r mid after ok same fits h = read_ok r after (sym ok) fits (subst (Brought (reading server bs) r) (sym same) h)
+-- the clauses, one by one, whatever the test of the answer is called
+
+pub refused_value : (bs : List ℕ) (r : Result (Unit {0}) ReadRefusal) (mid after : Contents) → Brought (reading server bs) r mid → true ≡ is_err r → after ≡ empty → Received (reading server bs) r after
+refused_value bs r mid after h err none = (read_err bs r mid after (sym err) none h).value
+
+pub refused_finds : (bs : List ℕ) (r : Result (Unit {0}) ReadRefusal) (mid c : Contents) → Brought (reading server bs) r mid → true ≡ is_err r → Conditions server c.formulas c.rules → bytes_of c ≡ bs → ⊥
+refused_finds bs r mid c h err lawful e = absurd (false≢true (ap is_err (sym ((read_err bs r mid empty (sym err) refl h).finds c lawful e).0) ∙ sym err))
+
+pub done_value : (bs : List ℕ) (r : Result (Unit {0}) ReadRefusal) (after : Contents) → Brought (reading server bs) r after → false ≡ is_err r → ((k : ℕ) → get_or bs k 0 < 256) → Received (reading server bs) r after
+done_value bs r after h ok fits = (read_ok bs r after (sym ok) fits h).value
+
+pub done_back : (bs : List ℕ) (r : Result (Unit {0}) ReadRefusal) (after : Contents) → Brought (reading server bs) r after → false ≡ is_err r → ((k : ℕ) → get_or bs k 0 < 256) → r ≡ Ok tt → bytes_of after ≡ bs
+done_back bs r after h ok fits = (read_ok bs r after (sym ok) fits h).back
+
+pub done_finds : (bs : List ℕ) (r : Result (Unit {0}) ReadRefusal) (after c : Contents) → Brought (reading server bs) r after → false ≡ is_err r → ((k : ℕ) → get_or bs k 0 < 256) → Conditions server c.formulas c.rules → bytes_of c ≡ bs → (r ≡ Ok tt) × (after ≡ c)
+done_finds bs r after c h ok fits = (read_ok bs r after (sym ok) fits h).finds c

@@ -122,6 +122,7 @@ impl Sheet {
         self.add_rules(&bytes[start..start + rules], formulas)
     }
 
+    #[tactic(auto, using(crate::proofs::Whole::refused_value, crate::proofs::Whole::refused_finds, crate::proofs::Whole::done_value, crate::proofs::Whole::done_back, crate::proofs::Whole::done_finds))]
     // Reads a sheet from its bytes. What was on the sheet is gone, also where the bytes are refused.
     // Bytes that are read are those of the sheet that is read, and the bytes of every sheet are read.
     pub fn read(&mut self, bytes: &[u8]) -> Result<(), ReadRefusal>

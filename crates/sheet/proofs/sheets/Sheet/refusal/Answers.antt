@@ -18,10 +18,10 @@ pub returns-then-self-cells : goal.returns-then-self-cells
 returns-then-self-cells c =
     let len = c.len-n.ensures ∙ c.args.self.now.formulas.ok.0 in
     let cells = c.cells.ensures ∙ ap cells_of c.of.ensures in
-    told_cells server (of c.args.self.now) c.args.f (omega (arith, len)) (c.in-default.ensures ∙ ap (λ (m : ℕ). fault m c.args.f) len) (omega (arith, cells, c.args.self.now.costing))
+    told_cells server (of c.args.self.now) c.args.f (omega (arith, len)) (c.in_default.ensures ∙ ap (λ (m : ℕ). fault m c.args.f) len) (omega (arith, cells, c.args.self.now.costing))
 
 pub returns : goal.returns
 returns c =
     let len = c.len-n.ensures ∙ c.args.self.now.formulas.ok.0 in
     let cells = c.cells.ensures ∙ ap cells_of c.of.ensures in
-    told_none server (of c.args.self.now) c.args.f (omega (arith, len)) (c.in-default.ensures ∙ ap (λ (m : ℕ). fault m c.args.f) len) (omega (arith, cells, c.args.self.now.costing))
+    told_none server (of c.args.self.now) c.args.f (omega (arith, len)) (c.in_default.ensures ∙ ap (λ (m : ℕ). fault m c.args.f) len) (omega (arith, cells, c.args.self.now.costing))

@@ -1,4 +1,4 @@
-use Rattle.std.proofs.Common.{◌∙◌, arith}
+use Rattle.std.proofs.Common.{◌∙◌}
 use Rattle.sheet.specs.Contents.{of}
 use Rattle.sheet.proofs.Reread.{reread}
 use Rattle.sheet.proofs.Writes.{fits_in, too_short}
@@ -16,6 +16,6 @@ pub returns : goal.returns
 returns c =
     let s = c.args.self.now in
     record {
-      value = fits_in (of s) s.lawful.0 c.len-formulas.result c.len-rules.result (c.len-formulas.ensures ∙ s.formulas.ok.0) (c.len-rules.ensures ∙ s.rules.ok.0) c.args.out.now c.if-out-length.false c.write-formulas.new.out c.put.new.out c.put-2.new.out c.as-slice.result.now c.trailer.result c.as-slice.ensures.value c.trailer.ensures c.write-formulas.ensures c.put.ensures c.put-2.ensures;
+      value = fits_in (of s) s.lawful.0 c.len-formulas.result c.len-rules.result (c.len-formulas.ensures ∙ s.formulas.ok.0) (c.len-rules.ensures ∙ s.rules.ok.0) c.args.out.now c.if-out-length.false c.write_formulas.new.out c.put.new.out c.put-2.new.out c.as_slice.result.now c.trailer.result c.as_slice.ensures.value c.trailer.ensures c.write_formulas.ensures c.put.ensures c.put-2.ensures;
       reads = reread (of s) s.lawful;
     }

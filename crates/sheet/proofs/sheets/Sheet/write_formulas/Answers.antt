@@ -1,4 +1,4 @@
-use Rattle.std.proofs.Common.{List, length, get_or, vec_items, ap, ◌∙◌, subst, arith}
+use Rattle.std.proofs.Common.{List, length, get_or, vec_items, ap, ◌∙◌, arith}
 use Rattle.sheet.specs.declared.formulas.Formula.{Formula}
 use Rattle.sheet.specs.declared.formulas.Formula.TheVariants.{Never}
 use Rattle.sheet.specs.Bytes.{formula_bytes}
@@ -9,9 +9,9 @@ pub loop-i-preserved : goal.loop-i-preserved
 loop-i-preserved c =
     let fs = vec_items c.args.self.now.formulas in
     let same = c.deref-formula-items.ensures.value in
-    one_formula fs c.args.out.now c.loop-i.i c.loop-i.out c.formula-bytes.result c.put.new.out c.loop-i.invariant
+    one_formula fs c.args.out.now c.loop-i.i c.loop-i.out c.formula_bytes.result c.put.new.out c.loop-i.invariant
     (omega (arith, c.loop-i-test.true, ap length same))
-    (c.formula-bytes.ensures ∙ ap (λ (gs : List Formula). formula_bytes (get_or gs c.loop-i.i Never)) same)
+    (c.formula_bytes.ensures ∙ ap (λ (gs : List Formula). formula_bytes (get_or gs c.loop-i.i Never)) same)
     c.put.ensures
 
 pub returns : goal.returns

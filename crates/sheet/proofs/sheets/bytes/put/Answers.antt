@@ -9,4 +9,4 @@ returns c =
     let n = length c.args.piece.now in
     let size : at + n - at ≡ n = omega arith in
     let rest : drop (at + n - at) (drop at out) ≡ drop (at + n) out = ap (λ (k : ℕ). drop k (drop at out)) size ∙ drop-drop n at out in
-    λ i. take at out ++ (c.copy-from-slice.ensures.after i ++ rest i)
+    λ i. take at out ++ (c.copy_from_slice.ensures.after i ++ rest i)
