@@ -1,5 +1,5 @@
 -- When a formula holds at a place of a log. This is the page to believe. Assumes nothing.
-use Rattle.std.specs.Prelude.{ℕ, ◌-◌, Bool, false, not, ◌&&◌, ◌||◌, List, get_or, nat_lt, slice_index_or}
+use Rattle.std.specs.Prelude.{ℕ, ◌-◌, Bool, false, not, ◌&&◌, ◌||◌, List, nat_lt, slice_index_or}
 use Rattle.line.specs.declared.Line.{Line}
 use Rattle.line.specs.Marks.{has}
 use Rattle.sheet.specs.declared.Formula.{Formula}
@@ -46,12 +46,12 @@ module _ (log : List Line) where
 abbrev pub truth_of : Meanings → List Line → List (ℕ → Bool) → Formula → ℕ → Bool
 truth_of M log before Never j = false
 truth_of M log before (Mark m) j = has (at log j).marks m
-truth_of M log before (Not a) j = not (get_or before a (λ _. false) j)
-truth_of M log before (Or a b) j = get_or before a (λ _. false) j || get_or before b (λ _. false) j
+truth_of M log before (Not a) j = not (slice_index_or before a (λ _. false) j)
+truth_of M log before (Or a b) j = slice_index_or before a (λ _. false) j || slice_index_or before b (λ _. false) j
 truth_of M log before (Previous a w) j = previous log (slice_index_or before a (λ _. false)) w j
 truth_of M log before (Since a b w) j = since log (slice_index_or before a (λ _. false)) (slice_index_or before b (λ _. false)) w j
 truth_of M log before (Count a b s w) j = M.says s (counted log (slice_index_or before a (λ _. false)) (slice_index_or before b (λ _. false)) w j)
 
 -- the formula with a number, on a sheet, at a place
 abbrev pub holds : Meanings → List Formula → List Line → ℕ → ℕ → Bool
-holds M formulas log n j = get_or (built (truth_of M log) formulas) n (λ _. false) j
+holds M formulas log n j = slice_index_or (built (truth_of M log) formulas) n (λ _. false) j
