@@ -1,13 +1,12 @@
-use Rattle.std.proofs.Common.{◌≡◌, ℕ, ◌+◌, ◌-◌, ◌<◌, ◌≤◌, Bool, true, false, not, ◌&&◌, ◌||◌, ltb, leb, List, get_or, sym, refl, ap, ◌∙◌, subst, arith}
+use Rattle.std.proofs.Common.{◌≡◌, ℕ, ◌+◌, ◌-◌, ◌<◌, ◌≤◌, Bool, true, false, not, ◌&&◌, ◌||◌, ltb, leb, List, sym, refl, ap, ◌∙◌, subst, arith}
 use Rattle.std.proofs.lemmas.Bool.{and_left, and_parts, and_right, leb-true, ltb-true}
 use Rattle.line.specs.declared.Line.{Line}
 use Rattle.scale.specs.declared.Plain.{Plain}
 use Rattle.sheet.specs.declared.Formula.{Formula}
 use Rattle.sheet.specs.declared.Formula.TheVariants.{Never, Mark, Not, Or, Previous, Since, Count}
-use Rattle.sheet.specs.declared.Window.{Window}
 use Rattle.sheet.specs.Conditions.{lawful_at}
 use Rattle.sheet.specs.Windows.{inside}
-use Rattle.truth.specs.Truth.{at, holds, within}
+use Rattle.truth.specs.Truth.{holds, within}
 use Rattle.judge.specs.Scales.{meaning, said}
 use Rattle.judge.proofs.Downs.{broken_at, every_last, found_at, here_at, kept_at, on_at, outside_at, reset_at, unreset_at}
 use Rattle.judge.proofs.Unrolls.{said_at, unroll}
@@ -34,7 +33,7 @@ count-count-requires t c =
     let h = c.args.h in
     let one : 1 ≤ h = omega arith in
     let out : within log w j h ≡ false = ap (inside w) (sym c.gap.ensures) ∙ sym c.if-not-contains.ensures in
-    (omega arith, (c.requires.sound.0, (c.requires.sound.1, (c.requires.within.0, (c.requires.within.1.0, (omega arith, (c.requires.within.1.1.1.0, (c.requires.within.1.1.1.1, unreset_at log ta tb w j h one c.requires.within.1.1.0 c.requires.unreset (and_left _ _ out)))))))))
+    (omega arith, (c.requires.sound, ((c.requires.within.0, (c.requires.within.1.0, (omega arith, (c.requires.within.1.1.1.0, c.requires.within.1.1.1.1)))), unreset_at log ta tb w j h one c.requires.within.1.1.0 c.requires.unreset (and_left _ _ out))))
 
 pub count-returns-then-not-contains : goal.count-returns-then-not-contains
 count-returns-then-not-contains t c =
@@ -69,7 +68,7 @@ count-count-more-requires t c =
     let j = c.args.j in
     let h = c.args.h in
     let one : 1 ≤ h = omega arith in
-    (omega arith, (c.requires.sound.0, (c.requires.sound.1, (c.requires.within.0, (c.requires.within.1.0, (omega arith, (c.requires.within.1.1.1.0, (c.requires.within.1.1.1.1, unreset_at log ta tb w j h one c.requires.within.1.1.0 c.requires.unreset (and_right _ _ (sym c.if-holds.ensures))))))))))
+    (omega arith, (c.requires.sound, ((c.requires.within.0, (c.requires.within.1.0, (omega arith, (c.requires.within.1.1.1.0, c.requires.within.1.1.1.1)))), unreset_at log ta tb w j h one c.requires.within.1.1.0 c.requires.unreset (and_right _ _ (sym c.if-holds.ensures)))))
 
 pub count-returns-then-holds-2 : goal.count-returns-then-holds-2
 count-returns-then-holds-2 t c =
@@ -119,7 +118,7 @@ since-since-requires t c =
     let j = c.args.j in
     let h = c.args.h in
     let one : 1 ≤ h = omega arith in
-    (omega arith, (c.requires.sound.0, (c.requires.sound.1, (c.requires.within.0, (c.requires.within.1.0, (omega arith, (c.requires.within.1.1.1.0, (c.requires.within.1.1.1.1, kept_at log ta tb w j h one c.requires.within.1.1.0 c.requires.kept (sym c.if-holds-2.ensures)))))))))
+    (omega arith, (c.requires.sound, ((c.requires.within.0, (c.requires.within.1.0, (omega arith, (c.requires.within.1.1.1.0, c.requires.within.1.1.1.1)))), kept_at log ta tb w j h one c.requires.within.1.1.0 c.requires.kept (sym c.if-holds-2.ensures))))
 
 pub since-returns-then-holds-2 : goal.since-returns-then-holds-2
 since-returns-then-holds-2 t c =
@@ -164,7 +163,7 @@ holds-since-requires t c =
     let second = and_parts (ltb c.in-Since.b c.args.n) _ first.1 in
     let a : c.in-Since.a < c.args.n = ltb-true _ _ first.0 in
     let b : c.in-Since.b < c.args.n = ltb-true _ _ second.0 in
-    (omega arith, (c.requires.sound.0, (c.requires.sound.1, (omega arith, (omega arith, (omega arith, (c.requires.within.1.0, (c.requires.within.1.1, every_last c.args.j _ c.args.j (omega arith)))))))))
+    (omega arith, (c.requires.sound, ((omega arith, (omega arith, (omega arith, (c.requires.within.1.0, c.requires.within.1.1)))), every_last c.args.j _ c.args.j (omega arith))))
 
 pub holds-returns-in-Never : goal.holds-returns-in-Never
 holds-returns-in-Never t c =
