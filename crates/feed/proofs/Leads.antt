@@ -1,13 +1,13 @@
 -- Where reading some bytes leads the text machine. Assumes nothing.
-use Rattle.std.proofs.Common.{◌≡◌, ℕ, zero, suc, ◌+◌, ◌-◌, ◌*◌, ◌/◌, ◌%◌, ◌^◌, ◌<◌, ◌≤◌, true, false, cond, ◌&&◌, eqb, ltb, leb, ◌⊎◌, List, [], ◌∷◌, ◌++◌, length, decimal, sym, refl, ap, ◌∙◌, subst, inl, inr, ⊎_elim, append_assoc, append-nil, add-zero, zero-add, arith, length-append}
+use Rattle.std.proofs.Common.{◌≡◌, ℕ, zero, suc, ◌+◌, ◌-◌, ◌*◌, ◌/◌, ◌%◌, ◌^◌, ◌<◌, ◌≤◌, true, false, eqb, ltb, ◌⊎◌, List, [], ◌∷◌, ◌++◌, length, decimal, sym, refl, ap, ◌∙◌, subst, inl, inr, ⊎_elim, append_assoc, append-nil, add-zero, zero-add, arith, length-append}
 use mathlib.Core.List.{append_cancel_left}
 use Rattle.std.proofs.lemmas.Fmt.{decimal_by_steps}
-use Rattle.std.proofs.lemmas.Bool.{and_from, ne_eqb, le-leb, lt-ltb, cond-true, cond-false, cases_lt}
+use Rattle.std.proofs.lemmas.Bool.{and_from, ne_eqb, le-leb, lt-ltb, cond-true, cond-false}
 use Rattle.line.specs.declared.Line.{Line}
 use Rattle.line.specs.Spelling.{letters_below, text, Lawful}
 use Rattle.line.proofs.Letters.{letters_push, marks_by_steps, no_letters}
 use Rattle.feed.specs.declared.answers.Ending.{Ending}
-use Rattle.feed.specs.declared.answers.Ending.TheVariants.{Clean, Fault as Faulty}
+use Rattle.feed.specs.declared.answers.Ending.TheVariants.{Fault as Faulty}
 use Rattle.feed.specs.declared.text.machine.State.{State}
 use Rattle.feed.specs.declared.text.machine.State.TheVariants.{Start, Time, Space, Marks, Hyphen}
 use Rattle.feed.specs.declared.text.machine.Step.{Step}
@@ -15,7 +15,7 @@ use Rattle.feed.specs.declared.text.machine.Step.TheVariants.{On, Line as Done, 
 use Rattle.feed.specs.Codes.{fault}
 use Rattle.feed.specs.Machine.{is_digit, is_letter, cause, lines_from, end_from, said, step}
 use Rattle.feed.specs.Spelled.{Begins, Unfinished}
-use Rattle.feed.proofs.Steps.{Sound, Tells, tells, last, goes_on}
+use Rattle.feed.proofs.Steps.{Sound, Tells, tells, last}
 
 -- what is found from a step on
 abbrev pub lines_by : Step → List ℕ → List Line

@@ -1,12 +1,10 @@
 -- The loop that reads one line of a text: what it keeps, and what its ways out answer. Assumes nothing.
-use Rattle.std.proofs.Common.{◌≡◌, ℕ, suc, ◌+◌, ◌<◌, ◌≤◌, List, [], ◌∷◌, ◌++◌, map, length, get_or, drop, sym, refl, ap, ◌∙◌, subst, add-zero, add-one, arith, length-append}
+use Rattle.std.proofs.Common.{◌≡◌, ℕ, ◌+◌, ◌<◌, ◌≤◌, List, [], ◌∷◌, length, get_or, drop, sym, refl, ap, ◌∙◌, subst, add-zero, add-one, arith, length-append}
 use Rattle.std.proofs.lemmas.List.{drop_more, drop_all}
 use Rattle.line.specs.declared.Line.{Line}
-use Rattle.line.specs.Spelling.{text}
 use Rattle.feed.specs.declared.answers.Cause.TheVariants.{Cut}
 use Rattle.feed.specs.declared.answers.Ending.{Ending}
-use Rattle.feed.specs.declared.answers.Ending.TheVariants.{Clean, Fault as Faulty}
-use Rattle.feed.specs.declared.answers.Next.{Next}
+use Rattle.feed.specs.declared.answers.Ending.TheVariants.{Fault as Faulty}
 use Rattle.feed.specs.declared.answers.Next.TheVariants.{Line as Handed, Ended}
 use Rattle.feed.specs.declared.text.machine.State.{State}
 use Rattle.feed.specs.declared.text.machine.State.TheVariants.{Start, Time, Space, Marks, Hyphen}
@@ -14,7 +12,6 @@ use Rattle.feed.specs.declared.text.machine.Step.{Step}
 use Rattle.feed.specs.declared.text.machine.Step.TheVariants.{On, Line as Done, Wrong}
 use Rattle.feed.specs.Codes.{fault}
 use Rattle.feed.specs.Machine.{lines_from, end_from, said, step, stop, cause}
-use Rattle.feed.specs.Meaning.{answer}
 use Rattle.feed.specs.Text.{lines_at, long, end_at, TextAt}
 use Rattle.feed.proofs.Rests.{no_line, one_line}
 use Rattle.feed.proofs.Leads.{lines_by, end_by, lines_step, end_step}

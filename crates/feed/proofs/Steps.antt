@@ -1,11 +1,11 @@
 -- The states of the text machine and the texts that lead to them. Assumes nothing.
-use Rattle.std.proofs.Common.{◌≡◌, ℕ, zero, suc, ◌+◌, ◌-◌, ◌*◌, ◌/◌, ◌%◌, ◌^◌, ◌<◌, ◌≤◌, Bool, true, false, cond, ◌&&◌, eqb, ltb, leb, ◌⊎◌, List, [], ◌∷◌, ◌++◌, length, decimal, sym, refl, ap, ◌∙◌, subst, inl, inr, ⊎_elim, append_assoc, append-nil, arith}
-use Rattle.std.proofs.lemmas.Fmt.{decimal_digit, decimal_step, decimal_by_steps}
+use Rattle.std.proofs.Common.{◌≡◌, ℕ, ◌+◌, ◌-◌, ◌*◌, ◌/◌, ◌%◌, ◌^◌, ◌<◌, ◌≤◌, true, ◌&&◌, eqb, ltb, leb, List, [], ◌∷◌, ◌++◌, decimal, sym, refl, ap, ◌∙◌, ⊎_elim, append_assoc, arith}
+use Rattle.std.proofs.lemmas.Fmt.{decimal_digit, decimal_step}
 use Rattle.std.proofs.lemmas.Bool.{and_parts, leb-true, ltb-true, eqb-true, cases_lt, cond_both}
 use Rattle.std.proofs.lemmas.Nat.{pow_below}
 use Rattle.line.specs.declared.Line.{Line}
 use Rattle.line.specs.Spelling.{letters_below, or_hyphen, text, Lawful}
-use Rattle.line.proofs.Letters.{letters_push, marks_by_steps, no_letters, or_hyphen_some}
+use Rattle.line.proofs.Letters.{letters_push, no_letters, or_hyphen_some}
 use Rattle.feed.specs.declared.text.machine.State.{State}
 use Rattle.feed.specs.declared.text.machine.State.TheVariants.{Start, Time, Space, Marks, Hyphen}
 use Rattle.feed.specs.declared.text.machine.Step.{Step}

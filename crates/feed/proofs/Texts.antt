@@ -1,10 +1,10 @@
 -- What the text machine finds is what the bytes spell, and nothing else is. Assumes nothing.
-use Rattle.std.proofs.Common.{◌≡◌, ℕ, zero, suc, ◌+◌, ◌-◌, ◌%◌, ◌^◌, ◌<◌, ◌≤◌, Bool, true, false, cond, ◌||◌, eqb, ◌⊎◌, List, [], ◌∷◌, ◌++◌, map, length, decimal, sym, refl, ap, ◌∙◌, subst, subst₂, inl, inr, ⊎_elim, append_assoc, append-nil, add-zero, zero-add, arith, length-append}
+use Rattle.std.proofs.Common.{◌≡◌, ℕ, suc, ◌+◌, ◌-◌, ◌%◌, ◌^◌, ◌<◌, Bool, false, cond, ◌||◌, eqb, List, [], ◌∷◌, ◌++◌, map, length, decimal, sym, refl, ap, ◌∙◌, subst, subst₂, inl, inr, append_assoc, append-nil, add-zero, arith, length-append}
 use Rattle.std.specs.List.{flat_map, AllByRecursion}
 use Rattle.std.proofs.lemmas.Fmt.{decimal_by_steps, decimal_nonempty}
 use Rattle.std.proofs.lemmas.Bool.{ne_eqb, or_parts, or_from}
 use Rattle.line.specs.declared.Line.{Line}
-use Rattle.line.specs.Spelling.{letters_below, text, Lawful}
+use Rattle.line.specs.Spelling.{text, Lawful}
 use Rattle.feed.specs.declared.answers.Cause.{Cause}
 use Rattle.feed.specs.declared.answers.Cause.TheVariants.{Time as TimeWrong, Marks as MarksWrong, Cut}
 use Rattle.feed.specs.declared.answers.Ending.{Ending}
@@ -15,8 +15,8 @@ use Rattle.feed.specs.declared.text.machine.Step.{Step}
 use Rattle.feed.specs.declared.text.machine.Step.TheVariants.{On, Line as Done, Wrong as NoStep}
 use Rattle.feed.specs.Codes.{fault}
 use Rattle.feed.specs.Machine.{cause, lines_from, end_from, said, step, stop}
-use Rattle.feed.specs.Spelled.{Begins, Unfinished, spaced, Wrong, Short, TextEnds, TextReads, OneReading}
-use Rattle.feed.proofs.Leads.{Leads, lines_by, end_by, leads_lines, leads_end, leads_sound, lines_step, end_step, line_lines, line_end, none_begins, reaches}
+use Rattle.feed.specs.Spelled.{Begins, spaced, TextEnds, TextReads, OneReading}
+use Rattle.feed.proofs.Leads.{lines_by, end_by, leads_lines, leads_end, leads_sound, lines_step, end_step, line_lines, line_end, none_begins, reaches}
 use Rattle.feed.proofs.Rests.{same_rest}
 use Rattle.feed.proofs.Steps.{Sound, Tells, tells, goes_on}
 

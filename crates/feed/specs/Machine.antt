@@ -1,6 +1,6 @@
 -- The machine that reads a text log. What it reads is said by `Spelled`; nothing here has to be
 -- believed. Assumes nothing.
-use Rattle.std.specs.Prelude.{ℕ, zero, suc, ◌+◌, ◌-◌, ◌*◌, ◌^◌, Bool, cond, ◌&&◌, List, [], ◌∷◌, ◌++◌, decimal, ◌==◌, nat_le, nat_lt}
+use Rattle.std.specs.Prelude.{ℕ, suc, ◌+◌, ◌-◌, ◌*◌, ◌^◌, Bool, cond, ◌&&◌, List, [], ◌∷◌, ◌++◌, decimal, ◌==◌, nat_le, nat_lt}
 use Rattle.line.specs.declared.Line.{Line}
 use Rattle.line.specs.Spelling.{letters_below}
 use Rattle.feed.specs.declared.answers.Cause.{Cause}

@@ -13,9 +13,9 @@ const LIMIT: usize = 32_768;
 // Prints every line to come, each as the log spells it, and answers how many they were and how the
 // feed ended.
 fn print_lines<F: Feed>(rt: &impl Print, feed: &mut F) -> io::Result<(u64, Ending)>
-    ensures count { IfOk result (λ p. length (lines feed.old) < 2 ^ 64 → p.0 ≡ length (lines feed.old)) }
-    ensures ending { IfOk result (λ p. p.1 ≡ ending feed.old) }
-    ensures empty { OnOk result (lines feed.new ≡ []) }
+    ensures count { IfOk result (λ p. length (F.lines feed.old) < 2 ^ 64 → p.0 ≡ length (F.lines feed.old)) }
+    ensures ending { IfOk result (λ p. p.1 ≡ F.ending feed.old) }
+    ensures empty { OnOk result (F.lines feed.new ≡ []) }
 {
     let mut count = 0u64;
     loop {

@@ -1,5 +1,5 @@
 // The machine that reads one line of a text log: its state, matched with the next byte.
-ghost use Rattle.std.specs.Prelude.{◌≡◌, ◌+◌, ◌-◌, ◌*◌, ◌^◌, ◌<◌, ◌&&◌, ltb, if◌then◌else◌, Some, None, nat_lt};
+ghost use Rattle.std.specs.Prelude.{◌≡◌, ◌+◌, ◌-◌, ◌*◌, ◌^◌, ◌<◌, ◌&&◌, if◌then◌else◌, Some, None, nat_lt};
 ghost use Rattle.feed.specs.Machine.{is_digit, is_letter, step, cause};
 
 use crate::Cause;
@@ -48,7 +48,7 @@ fn letter(b: u8) -> Option<u32>
 // A further digit: none follows a leading zero, and the time stays within 32 bits.
 fn longer(time: u32, d: u32) -> Option<u32>
     requires { d < 10 }
-    ensures { result ≡ (if ltb 0 time && nat_lt (time * 10 + d) (2 ^ 32) then Some (time * 10 + d) else None) }
+    ensures { result ≡ (if nat_lt 0 time && nat_lt (time * 10 + d) (2 ^ 32) then Some (time * 10 + d) else None) }
 {
     let longer = u64::from(time) * 10 + u64::from(d);
     if time > 0 && longer <= u64::from(u32::MAX) {

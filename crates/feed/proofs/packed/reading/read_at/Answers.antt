@@ -1,4 +1,4 @@
-use Rattle.std.proofs.Common.{ℕ, ◌+◌, sym, ap, subst, arith}
+use Rattle.std.proofs.Common.{ℕ, ◌+◌, sym, subst}
 use Rattle.line.specs.declared.Line.{Line}
 use Rattle.feed.specs.declared.answers.Ending.TheVariants.{Fault as Faulty}
 use Rattle.feed.specs.declared.answers.Next.TheVariants.{Line as Handed, Ended}

@@ -1,8 +1,8 @@
-use Rattle.std.proofs.Common.{sym, ap, ◌∙◌, subst, arith}
+use Rattle.std.proofs.Common.{sym, subst, arith}
 use Rattle.feed.specs.declared.answers.Next.{Next}
 use Rattle.feed.specs.declared.answers.Next.TheVariants.{Ended}
 use Rattle.feed.specs.declared.text.machine.State.{State}
-use Rattle.feed.specs.Machine.{stop, cause}
+use Rattle.feed.specs.Machine.{stop}
 use Rattle.feed.specs.Text.{TextAt}
 use Rattle.feed.proofs.Scan.{at_start, scan_on, scan_line, scan_wrong, scan_end, scan_cut}
 use Rattle.feed.proofs.text.reading.read_at.Goals as goal
@@ -27,8 +27,8 @@ returns-in-Start c =
     subst (λ (s : State). TextAt c.args.bytes.now c.args.start (Ended (stop s c.loop-i.i)) c.args.start) c.in-Start.is
     (scan_end _ _ _ _ c.loop-i.invariant c.requires c.loop-i-test.false)
 
-pub returns-in-default : goal.returns-in-default
-returns-in-default c =
+pub returns-in_default : goal.returns-in_default
+returns-in_default c =
     subst (λ (r : Next). TextAt c.args.bytes.now c.args.start r c.args.start)
-    (sym c.fault-in-default.ensures)
-    (scan_cut _ _ _ _ c.loop-i.invariant c.requires (omega arith) c.in-default.not-Start)
+    (sym c.fault-in_default.ensures)
+    (scan_cut _ _ _ _ c.loop-i.invariant c.requires (omega arith) c.in_default.not-Start)
