@@ -1,5 +1,5 @@
 -- Eight scales that are the bench limits. Assumes nothing.
-use Rattle.std.proofs.Common.{◌≡◌, ℕ, zero, suc, ◌≤◌, Bool, [], ◌∷◌, IfOk, Ok, Result, subst, arith}
+use Rattle.std.proofs.Common.{◌≡◌, ℕ, zero, suc, [], ◌∷◌, IfOk, Ok, Result, subst, arith}
 use Rattle.scale.specs.declared.Plain.{Plain}
 use Rattle.scale.specs.Plain.{says}
 use Rattle.scale.specs.Limits as limit

@@ -1,4 +1,4 @@
-use Rattle.std.proofs.Common.{is_ok, sym, refl, ap}
+use Rattle.std.proofs.Common.{is_ok, refl, ap}
 use Rattle.sheet.specs.Bytes.{add_formulas, add_rules, fields_from}
 use Rattle.bench.proofs.Means.{made_says, means}
 use Rattle.bench.proofs.set_up.Goals as goal
