@@ -1,5 +1,5 @@
 -- What is asked of a pair is asked of one of its sets. Assumes nothing.
-use Rattle.std.proofs.Common.{◌≡◌, ℕ, ◌-◌, min, Bool, true, false, cond, ltb, sym, refl, ap, ◌∙◌}
+use Rattle.std.proofs.Common.{◌≡◌, ℕ, ◌-◌, min, true, false, cond, ltb, sym, refl, ap, ◌∙◌}
 use Rattle.scale.specs.declared.pairs.Paired.{Paired}
 use Rattle.scale.specs.declared.pairs.Side.{Side}
 use Rattle.scale.specs.declared.pairs.Side.TheVariants.{First, Second}

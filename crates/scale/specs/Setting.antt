@@ -1,5 +1,5 @@
 -- What setting one scale of a table does. Assumes nothing.
-use Rattle.std.specs.Prelude.{◌≡◌, ℕ, min, Bool, cond, List, set, Some, None, Option, ◌==◌, nat_le, slice_set}
+use Rattle.std.specs.Prelude.{◌≡◌, ℕ, min, Bool, cond, List, Some, None, Option, ◌==◌, nat_le, slice_set}
 use Rattle.scale.specs.declared.answers.Refusal.{Refusal}
 use Rattle.scale.specs.declared.answers.Refusal.TheVariants.{Scale}
 

@@ -1,5 +1,5 @@
 -- What a wheel set means. Assumes nothing.
-use Rattle.std.specs.Prelude.{◌≡◌, ℕ, ◌+◌, ◌-◌, ◌%◌, ◌<◌, ◌≤◌, min, Bool, get_or, nat_lt, slice_index_or}
+use Rattle.std.specs.Prelude.{◌≡◌, ℕ, ◌-◌, ◌<◌, ◌≤◌, min, Bool, get_or, nat_lt, slice_index_or}
 use Rattle.std.proofs.Common.{ap, mod-lt, arith}
 use Rattle.std.proofs.lemmas.Bool.{cond_both, ltb-true}
 use Rattle.scale.specs.declared.wheels.Wheel.{Wheel}

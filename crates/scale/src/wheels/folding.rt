@@ -82,6 +82,7 @@ impl Wheel {
     }
 
     // The class of the sum of two counts, from their classes.
+    #[tactic(auto, using(crate::proofs::Turning::folded_sum, crate::specs::WheelTable::folded_below))]
     pub fn join(self, a: u16, b: u16) -> u16
         ensures bound { result < of.size self }
         ensures value { a < of.size self → b < of.size self → result ≡ of.joined self a b }
