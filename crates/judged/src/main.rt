@@ -22,8 +22,8 @@ const LONGEST: usize = 1_024;
 // Takes lines from the feed until it ends, and tells its ending; or one line more than are judged.
 fn take_lines<F: Feed>(feed: &mut F, log: &mut Vec<Line>) -> Option<Ending>
     requires { (1025 ≤ vec_capacity log.old) × (vec_len log.old ≤ 1025) }
-    ensures lines { log.new.items ++ lines feed.new ≡ log.old.items ++ lines feed.old }
-    ensures ending { MatchOption result (vec_len log.new ≡ 1025) (λ e. (e ≡ ending feed.old) × (lines feed.new ≡ [])) }
+    ensures lines { log.new.items ++ F.lines feed.new ≡ log.old.items ++ F.lines feed.old }
+    ensures ending { MatchOption result (vec_len log.new ≡ 1025) (λ e. (e ≡ F.ending feed.old) × (F.lines feed.new ≡ [])) }
 {
     while log.len() <= LONGEST {
         match feed.next() {

@@ -1,4 +1,4 @@
-use Rattle.std.proofs.Common.{◌≡◌, ◌-◌, ◌≤◌, ◌++◌, length, vec_items, vec_len, vec_capacity}
+use Rattle.std.proofs.Common.{◌≡◌, ◌-◌, ◌≤◌, ◌++◌, vec_items, vec_len, vec_capacity}
 use Rattle.judged.proofs.take_lines.Given as goal
 
 -- what is held and what is to come are what was held and was to come, and the ending stays
