@@ -1,5 +1,5 @@
 // A sheet in bytes: formulas of eight bytes, rules of one, and a trailer of four.
-ghost use Rattle.std.specs.Prelude.{◌≡◌, ◌+◌, ◌*◌, ◌<◌, ◌≤◌, ◌++◌, length, take, drop, if◌then◌else◌, Ok};
+ghost use Rattle.std.specs.Prelude.{◌≡◌, ◌+◌, ◌*◌, ◌<◌, ◌≤◌, ◌++◌, length, take, drop, Ok};
 ghost use Rattle.std.specs.List.{flat_map};
 ghost use Rattle.sheet.specs.Bytes as layout;
 ghost use Rattle.sheet.specs.Conditions.{Conditions, server};
@@ -122,9 +122,9 @@ impl Sheet {
         self.add_rules(&bytes[start..start + rules], formulas)
     }
 
-    #[tactic(auto, using(crate::proofs::Whole::refused_value, crate::proofs::Whole::refused_finds, crate::proofs::Whole::done_value, crate::proofs::Whole::done_back, crate::proofs::Whole::done_finds))]
     // Reads a sheet from its bytes. What was on the sheet is gone, also where the bytes are refused.
     // Bytes that are read are those of the sheet that is read, and the bytes of every sheet are read.
+    #[tactic(auto, using(crate::proofs::Whole::refused_value, crate::proofs::Whole::refused_finds, crate::proofs::Whole::done_value, crate::proofs::Whole::done_back, crate::proofs::Whole::done_finds))]
     pub fn read(&mut self, bytes: &[u8]) -> Result<(), ReadRefusal>
         ensures value { layout.Received (layout.reading server bytes.now) result (contents.of self.new) }
         ensures back { result ≡ Ok tt → layout.bytes_of (contents.of self.new) ≡ bytes.now }
