@@ -1,11 +1,13 @@
-// A line as a text log spells it, without the line feed that ends it there.
+// How a line and a fault are printed.
 ghost use Rattle.std.specs.Prelude.{◌≡◌, Some};
 ghost use Rattle.std.specs.Fmt.{WritesOnOk};
 ghost use Rattle.line.specs.Spelling.{letters_below, or_hyphen, written};
+ghost use Rattle.line.specs.Told.{told};
 
-use crate::Line;
+use crate::{Fault, Line};
 use std::fmt;
 
+// A line as a text log spells it, without the line feed that ends it there.
 impl fmt::Display for Line {
     ghost output = { λ l. Some (written l) };
 
@@ -31,4 +33,18 @@ fn write_marks<W: fmt::Write>(marks: u32, f: &mut fmt::Formatter<W>) -> fmt::Res
         f.write_char('-')?;
     }
     Ok(())
+}
+
+// The layer, the number and the place, as a program tells them.
+impl fmt::Display for Fault {
+    ghost output = { λ f. Some (told f) };
+
+    fn fmt<W: fmt::Write>(&self, f: &mut fmt::Formatter<W>) -> fmt::Result {
+        let Fault {
+            layer,
+            number,
+            place,
+        } = *self;
+        write!(f, "{layer} {number} {place}")
+    }
 }
