@@ -1,8 +1,8 @@
 -- The letters of a set of marks: what one more mark, above those that are there, adds to them. Assumes nothing.
-use Rattle.std.proofs.Common.{◌≡◌, ℕ, zero, suc, ◌+◌, ◌-◌, ◌*◌, ◌/◌, ◌%◌, ◌^◌, ◌<◌, ◌≤◌, Bool, true, false, cond, eqb, List, [], ◌∷◌, ◌++◌, sym, refl, ap, ◌∙◌, subst, ⊎_elim, append-nil, mod-eq_of_lt, zero-add, div-one, arith, pow_pos, pow_mono, pow-add}
+use Rattle.std.proofs.Common.{◌≡◌, ℕ, zero, suc, ◌+◌, ◌-◌, ◌*◌, ◌/◌, ◌%◌, ◌^◌, ◌<◌, ◌≤◌, Bool, true, false, cond, eqb, List, [], ◌∷◌, ◌++◌, sym, refl, ap, ◌∙◌, subst, ⊎_elim, append-nil, add-one, arith, pow_pos, pow_mono, pow-add}
 use native.Mathlib.Nat.{add-mul-div_right, add-mul-mod_self_right, div-eq_of_lt, mod-one}
 use lib.Pow.{mod-pow-add}
-use Rattle.std.proofs.lemmas.Bool.{cases_lt, eq-eqb, ne_eqb, eqb-true, eqb-false}
+use Rattle.std.proofs.lemmas.Bool.{cases_eq, cases_lt, eq-eqb, ne_eqb}
 use Rattle.line.specs.Marks.{has}
 use Rattle.line.specs.Spelling.{letters_below, or_hyphen}
 
@@ -74,14 +74,52 @@ pub no_letters : letters_below 26 0 ≡ []
 unfolding letters_below
 no_letters = refl
 
+-- one mark more is a letter more where it is set, and none where it is not
+pub letters_set : (m i : ℕ) → m / 2 ^ i % 2 ≡ 1 → letters_below (i + 1) m ≡ letters_below i m ++ (97 + i) ∷ []
+unfolding letters_below
+letters_set m i h = ap (λ (n : ℕ). letters_below n m) (add-one i) ∙ ap (λ (b : Bool). letters_below i m ++ cond b ((97 + i) ∷ []) []) (eq-eqb _ 1 h)
+
+pub letters_unset : (m i : ℕ) → (m / 2 ^ i % 2 ≡ 1 → ⊥) → letters_below (i + 1) m ≡ letters_below i m
+unfolding letters_below
+letters_unset m i h = ap (λ (n : ℕ). letters_below n m) (add-one i) ∙ no_letter (letters_below i m) (has m i) (97 + i) (ne_eqb _ 1 h)
+
 pub or_hyphen-push : (xs : List ℕ) (x : ℕ) → or_hyphen (xs ++ x ∷ []) ≡ xs ++ x ∷ []
 or_hyphen-push [] x = refl
 or_hyphen-push (y ∷ xs) x = refl
 
--- marks have a letter, so no hyphen stands for them
+-- no letter is left where no mark below n is set, and one is where some mark is
+
+top_set : (m n : ℕ) → m / 2 ^ n % 2 ≡ 1 → m % 2 ^ suc n ≡ 2 ^ n + m % 2 ^ n
+top_set m n h = ap (λ k. m % 2 ^ k) (omega arith) ∙ mod-pow-add m 1 n ∙ ap (λ d. d * 2 ^ n + m % 2 ^ n) h ∙ omega arith
+
+top_unset : (m n : ℕ) → (m / 2 ^ n % 2 ≡ 1 → ⊥) → m % 2 ^ suc n ≡ m % 2 ^ n
+top_unset m n h =
+    let none : m / 2 ^ n % 2 ≡ 0 = omega arith in
+    ap (λ k. m % 2 ^ k) (omega arith) ∙ mod-pow-add m 1 n ∙ ap (λ d. d * 2 ^ n + m % 2 ^ n) none ∙ omega arith
+
+letters_none : (n m : ℕ) → m % 2 ^ n ≡ 0 → letters_below n m ≡ []
+unfolding letters_below
+letters_none zero m h = refl
+letters_none (suc n) m h =
+    ⊎_elim
+    (λ set. absurd (omega (arith, top_set m n set, pow_pos n)))
+    (λ unset. no_letter _ _ _ (ne_eqb _ 1 unset) ∙ letters_none n m (omega (arith, top_unset m n unset)))
+    (cases_eq (m / 2 ^ n % 2) 1)
+
+letters_some : (n m : ℕ) → (m % 2 ^ n ≡ 0 → ⊥) → or_hyphen (letters_below n m) ≡ letters_below n m
+unfolding letters_below
+letters_some zero m h = absurd (h (mod-one m))
+letters_some (suc n) m h =
+    ⊎_elim
+    (λ set. let e = ap (λ (b : Bool). letters_below n m ++ cond b ((97 + n) ∷ []) []) (eq-eqb _ 1 set) in ap or_hyphen e ∙ or_hyphen-push _ _ ∙ sym e)
+    (λ unset. let e = no_letter (letters_below n m) (has m n) (97 + n) (ne_eqb _ 1 unset) in ap or_hyphen e ∙ letters_some n m (λ z. h (top_unset m n unset ∙ z)) ∙ sym e)
+    (cases_eq (m / 2 ^ n % 2) 1)
+
+pub hyphen_alone : (m : ℕ) → m % 2 ^ 26 ≡ 0 → or_hyphen (letters_below 26 m) ≡ 45 ∷ []
+hyphen_alone m h = ap or_hyphen (letters_none 26 m h)
+
+pub no_hyphen : (m : ℕ) → (m % 2 ^ 26 ≡ 0 → ⊥) → or_hyphen (letters_below 26 m) ≡ letters_below 26 m
+no_hyphen = letters_some 26
+
 pub or_hyphen_some : (m : ℕ) → m < 2 ^ 26 → 0 < m → or_hyphen (letters_below 26 m) ≡ letters_below 26 m
-or_hyphen_some m h =
-    marks_by_steps (λ m. 0 < m → or_hyphen (letters_below 26 m) ≡ letters_below 26 m)
-    (λ p. absurd (omega arith))
-    (λ m j lt known _ _. let e = letters_push m j lt known in ap or_hyphen e ∙ or_hyphen-push _ _ ∙ sym e)
-    m h
+or_hyphen_some m h some = no_hyphen m (λ e. omega arith)

@@ -22,15 +22,13 @@ impl fmt::Display for Line {
 fn write_marks<W: fmt::Write>(marks: u32, f: &mut fmt::Formatter<W>) -> fmt::Result
     ensures { WritesOnOk W.write_str_gives f.old result (or_hyphen (letters_below 26 marks)) f.new }
 {
-    let mut none = true;
+    if marks % (1 << Line::KNOWN) == 0 {
+        return f.write_char('-');
+    }
     for i in 0..26u8 {
         if (marks >> i) % 2 == 1 {
             f.write_char((b'a' + i) as char)?;
-            none = false;
         }
-    }
-    if none {
-        f.write_char('-')?;
     }
     Ok(())
 }
