@@ -4,43 +4,38 @@ ghost use Rattle.feed.specs.Codes.{number};
 
 use line::{Fault, Line};
 
-// How a feed ends.
+// How a feed ends. No Result: an ending that is still open is to come.
 #[derive(Clone, Copy, PartialEq, Eq, Debug)]
 pub enum Ending {
     Clean,
     Fault(Fault),
 }
 
-// What a feed answers when it is asked for its next line.
+// What a feed answers when it is asked for its next line. No Option or Result: a pause between
+// lines is to come.
 #[derive(Clone, Copy, PartialEq, Eq, Debug)]
 pub enum Next {
     Line(Line),
     Ended(Ending),
 }
 
-// What is wrong with the bytes of a log.
+// What is wrong with the bytes of a log. Each case stands for its service number.
 #[derive(Clone, Copy, PartialEq, Eq, Debug)]
 pub enum Cause {
     // A packed log ends inside a line.
-    Torn,
+    Torn = 51,
     // A byte that is wrong before the space or in its place.
-    Time,
+    Time = 52,
     // A byte that is wrong behind the space.
-    Marks,
+    Marks = 53,
     // A text log ends inside a line.
-    Cut,
+    Cut = 54,
 }
 
-impl Cause {
-    // The service number.
-    pub fn code(self) -> u8
-        ensures { result ≡ number self }
-    {
-        match self {
-            Cause::Torn => 51,
-            Cause::Time => 52,
-            Cause::Marks => 53,
-            Cause::Cut => 54,
-        }
+impl From<Cause> for u8 {
+    ghost from_gives = { λ cause code. code ≡ number cause };
+
+    fn from(cause: Cause) -> u8 {
+        cause as u8
     }
 }

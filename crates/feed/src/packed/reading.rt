@@ -54,7 +54,7 @@ fn read_at(bytes: &[u8], start: usize) -> (Next, usize)
     if left < 8 {
         let fault = Fault {
             layer: <PackedFeed<'_> as Feed>::LAYER,
-            number: Cause::Torn.code(),
+            number: u8::from(Cause::Torn),
             place: start as u64,
         };
         return (Next::Ended(Ending::Fault(fault)), start);

@@ -33,7 +33,7 @@ fn fault(cause: Cause, place: usize) -> Next
 {
     Next::Ended(Ending::Fault(Fault {
         layer: <TextFeed<'_> as Feed>::LAYER,
-        number: cause.code(),
+        number: u8::from(cause),
         place: place as u64,
     }))
 }

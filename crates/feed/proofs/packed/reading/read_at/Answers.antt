@@ -12,7 +12,7 @@ returns-then-left-eq0 c = packed_none c.args.bytes.now c.args.start c.requires c
 pub returns-then-left-lt8 : goal.returns-then-left-lt8
 returns-then-left-lt8 c =
     subst (λ (n : ℕ). PackedAt c.args.bytes.now c.args.start (Ended (Faulty (record { layer = 3; number = n; place = c.args.start }))) c.args.start)
-    (sym c.code.ensures)
+    (sym c.from.ensures)
     (packed_torn c.args.bytes.now c.args.start c.requires c.if-left-eq0.false c.if-left-lt8.true)
 
 pub returns : goal.returns
