@@ -1,15 +1,16 @@
--- What a packed feed means. Assumes nothing.
-use Rattle.std.specs.Prelude.{ℕ, zero, suc, ◌+◌, ◌-◌, ◌*◌, ◌/◌, ◌%◌, Bool, true, false, cond, List, [], ◌∷◌, map, length, ◌==◌, slice_index}
+-- What a packed log means. Assumes nothing.
+use Rattle.std.specs.Prelude.{ℕ, zero, suc, ◌+◌, ◌-◌, ◌*◌, ◌/◌, ◌%◌, Bool, true, false, cond, List, [], ◌∷◌, length, ◌==◌, slice_index}
 use Rattle.std.proofs.Common.{arith}
-use Rattle.std.proofs.lemmas.List.{length-map}
 use Rattle.line.specs.declared.Line.{Line}
 use Rattle.feed.specs.declared.answers.Cause.TheVariants.{Torn}
 use Rattle.feed.specs.declared.answers.Ending.{Ending}
 use Rattle.feed.specs.declared.answers.Ending.TheVariants.{Clean, Fault as Faulty}
 use Rattle.feed.specs.declared.answers.Next.{Next}
-use Rattle.feed.specs.declared.packed.PackedFeed.{PackedFeed}
+use Rattle.feed.specs.declared.bytes.ByteFeed.{ByteFeed}
+use Rattle.feed.specs.declared.packed.Packed.{Packed}
+use Rattle.feed.specs.Bytes as over
 use Rattle.feed.specs.Codes.{fault}
-use Rattle.feed.specs.Meaning.{At, FeedEnding, Laws}
+use Rattle.feed.specs.Meaning.{At, FeedEnding, FeedLayer}
 
 -- the number that four bytes spell at a place, the higher byte first
 abbrev pub word_at : List ℕ → ℕ → ℕ
@@ -34,30 +35,34 @@ lines_at bytes at = lines_from (count bytes at) bytes at
 abbrev pub end_at : List ℕ → ℕ → Ending
 end_at bytes at = cond ((length bytes - at) % 8 == 0) Clean (Faulty (fault 3 Torn (at + count bytes at * 8)))
 
+abbrev pub long : Line → ℕ
+long _ = 8
+
 abbrev pub PackedAt : List ℕ → ℕ → Next → ℕ → Type 0
-PackedAt bytes = At (length bytes) (lines_at bytes) (λ _. 8) (end_at bytes)
+PackedAt bytes = At (length bytes) (lines_at bytes) long (end_at bytes)
 
--- a feed's
-
-abbrev pub passed : PackedFeed → ℕ
-passed f = f.at
-
-abbrev pub lines : PackedFeed → List Line
-lines f = lines_at f.bytes.now f.at
-
-abbrev pub lengths : PackedFeed → List ℕ
-lengths f = map (λ _. 8) (lines f)
-
-abbrev pub ending : PackedFeed → Ending
-ending f = end_at f.bytes.now f.at
+-- that this is a format
 
 lawful_end : (b : Bool) (p : ℕ) → FeedEnding (cond b Clean (Faulty (fault 3 Torn p)))
 lawful_end true p = tt
 lawful_end false p = omega arith
 
-pub laws : Laws 3 lines lengths ending
-laws = record {
-  measured = λ f. length-map (lines f) (λ _. 8);
-  layer = omega arith;
-  faults = λ f. lawful_end ((length f.bytes.now - f.at) % 8 == 0) _;
-}
+pub layer : FeedLayer 3
+layer = omega arith
+
+pub faults : (bytes : List ℕ) (at : ℕ) → FeedEnding (end_at bytes at)
+faults bytes at = lawful_end ((length bytes - at) % 8 == 0) _
+
+-- a feed's
+
+abbrev pub passed : ByteFeed Packed → ℕ
+passed = over.passed
+
+abbrev pub lines : ByteFeed Packed → List Line
+lines = over.lines lines_at
+
+abbrev pub lengths : ByteFeed Packed → List ℕ
+lengths = over.lengths lines_at long
+
+abbrev pub ending : ByteFeed Packed → Ending
+ending = over.ending end_at

@@ -1,7 +1,6 @@
--- That a text feed is a feed: its faults are its own. Assumes nothing.
+-- That text is a format: its faults are its own. Assumes nothing.
 use Rattle.std.specs.Prelude.{ℕ, suc, List, [], ◌∷◌, drop}
 use Rattle.std.proofs.Common.{arith}
-use Rattle.std.proofs.lemmas.List.{length-map}
 use Rattle.feed.specs.declared.answers.Ending.{Ending}
 use Rattle.feed.specs.declared.answers.Ending.TheVariants.{Fault as Faulty}
 use Rattle.feed.specs.declared.text.machine.State.{State}
@@ -10,8 +9,8 @@ use Rattle.feed.specs.declared.text.machine.Step.{Step}
 use Rattle.feed.specs.declared.text.machine.Step.TheVariants.{On, Line as Done, Wrong as NoStep}
 use Rattle.feed.specs.Codes.{fault}
 use Rattle.feed.specs.Machine.{cause, end_from, step, stop}
-use Rattle.feed.specs.Meaning.{FeedFault, FeedEnding, Laws}
-use Rattle.feed.specs.Text.{ending, lengths, lines, long}
+use Rattle.feed.specs.Meaning.{FeedFault, FeedEnding, FeedLayer}
+use Rattle.feed.specs.Text.{end_at}
 
 by_step : (P : Ending → Type 0) (s : State) (p : ℕ) (bs : List ℕ) (y : Step) → ((t : State) (q : ℕ) → P (end_from t q bs)) → P (Faulty (fault 4 (cause s) p)) → P (elim y as (λ _. Ending) [ On t ↦ end_from t (suc p) bs | Done l ↦ end_from Start (suc p) bs | NoStep ↦ Faulty (fault 4 (cause s) p) ])
 by_step P s p bs (On t) more wrong = more t (suc p)
@@ -37,9 +36,8 @@ unfolding end_from
 lawful_end [] s p = lawful_stop s p
 lawful_end (b ∷ bs) s p = by_step FeedEnding s p bs (step s b) (λ t q. lawful_end bs t q) (lawful_cause s p)
 
-pub laws : Laws 4 lines lengths ending
-laws = record {
-  measured = λ f. length-map (lines f) long;
-  layer = omega arith;
-  faults = λ f. lawful_end (drop f.at f.bytes.now) Start f.at;
-}
+pub layer : FeedLayer 4
+layer = omega arith
+
+pub faults : (bytes : List ℕ) (at : ℕ) → FeedEnding (end_at bytes at)
+faults bytes at = lawful_end (drop at bytes) Start at

@@ -7,6 +7,8 @@ ghost use Rattle.feed.specs.declared.answers.Ending.{Ending};
 ghost use Rattle.feed.specs.Meaning.{answer, Laws};
 
 pub mod answers;
+mod bytes;
+mod format;
 mod packed;
 mod text;
 

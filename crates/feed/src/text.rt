@@ -1,13 +1,79 @@
 // The text feed.
-ghost use Rattle.std.specs.Prelude.{◌≤◌, length};
+ghost use Rattle.std.specs.Prelude.{◌≡◌, ℕ, ◌≤◌, List, length};
+ghost use Rattle.std.specs.List.{flat_map, AllByRecursion};
+ghost use Rattle.line.specs.declared.Line.{Line};
+ghost use Rattle.line.specs.Spelling as spelling;
+ghost use Rattle.line.specs.Spelling.{Lawful};
+ghost use Rattle.feed.specs.Codes as codes;
+ghost use Rattle.feed.specs.Spelled.{OneReading, TextReads};
+ghost use Rattle.feed.specs.Text as text;
+ghost use Rattle.feed.specs.TextLaws as text_laws;
 
 mod machine;
-mod reading;
+
+use crate::bytes::ByteFeed;
+use crate::format::Format;
+use crate::{Cause, Ending, Next};
+use line::Fault;
+use machine::{State, Step};
+
+// A text a line: its time in decimal, a space, its marks and a line feed.
+pub struct Text;
 
 // The lines that a text log spells, from the cursor on. It borrows the log.
-#[derive(Drop)]
-pub struct TextFeed<'a> {
-    bytes: &'a [u8],
-    at: usize,
-    ghost inside: { at ≤ length bytes.now },
+pub type TextFeed<'a> = ByteFeed<'a, Text>;
+
+impl<'a> TextFeed<'a> {
+    // A feed of the lines that the bytes spell. They spell them in one way only, and lawful lines
+    // that were spelled out come back.
+    pub fn new(bytes: &'a [u8]) -> TextFeed<'a>
+        ensures start { text.passed result ≡ 0 }
+        ensures reads { (rest : List ℕ) × TextReads bytes.now (text.lines result) (text.lengths result) rest (text.ending result) }
+        ensures once { OneReading (TextReads bytes.now) }
+        ensures back { (ls : List Line) → AllByRecursion Lawful ls → flat_map spelling.text ls ≡ bytes.now → (text.lines result ≡ ls) × (text.ending result ≡ Ending.Clean) }
+    {
+        ByteFeed::over(bytes)
+    }
+}
+
+// The fault of a text log at a place.
+fn fault(cause: Cause, place: usize) -> Next
+    ensures { result ≡ Next.Ended (Ending.Fault (codes.fault 4 cause place)) }
+{
+    Next::Ended(Ending::Fault(Fault {
+        layer: Text::LAYER,
+        number: u8::from(cause),
+        place: place as u64,
+    }))
+}
+
+impl Format for Text {
+    const LAYER: u8 = 4;
+
+    ghost LAYER = { 4 };
+
+    ghost lines = { text.lines_at };
+
+    ghost long = { text.long };
+
+    ghost ending = { text.end_at };
+
+    ghost layer = { text_laws.layer };
+
+    ghost faults = { text_laws.faults };
+
+    fn read_at(bytes: &[u8], start: usize) -> (Next, usize) {
+        let mut state = State::Start;
+        for i in start..bytes.len() {
+            match state.read(bytes[i]) {
+                Step::On(on) => state = on,
+                Step::Line(line) => return (Next::Line(line), i + 1),
+                Step::Wrong => return (fault(state.cause(), i), start),
+            }
+        }
+        match state {
+            State::Start => (Next::Ended(Ending::Clean), start),
+            _ => (fault(Cause::Cut, bytes.len()), start),
+        }
+    }
 }

@@ -1,5 +1,5 @@
 use Rattle.feed.proofs.Scan.{Sofar}
-use Rattle.feed.proofs.text.reading.read_at.Given as goal
+use Rattle.feed.proofs.text.TextFormat.read_at.Given as goal
 
 abbrev pub invariant-loop-i : goal.invariant-loop-i
 invariant-loop-i l = Sofar l.bytes l.start l.state l.i

@@ -5,7 +5,7 @@ use Rattle.feed.specs.declared.text.machine.State.{State}
 use Rattle.feed.specs.Machine.{stop}
 use Rattle.feed.specs.Text.{TextAt}
 use Rattle.feed.proofs.Scan.{at_start, scan_on, scan_line, scan_wrong, scan_end, scan_cut}
-use Rattle.feed.proofs.text.reading.read_at.Goals as goal
+use Rattle.feed.proofs.text.TextFormat.read_at.Goals as goal
 
 pub loop-i-init : goal.loop-i-init
 loop-i-init c = at_start c.args.bytes.now c.args.start

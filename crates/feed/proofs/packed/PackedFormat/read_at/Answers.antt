@@ -4,7 +4,7 @@ use Rattle.feed.specs.declared.answers.Ending.TheVariants.{Fault as Faulty}
 use Rattle.feed.specs.declared.answers.Next.TheVariants.{Line as Handed, Ended}
 use Rattle.feed.specs.Packed.{PackedAt}
 use Rattle.feed.proofs.Packs.{packed_none, packed_torn, packed_line}
-use Rattle.feed.proofs.packed.reading.read_at.Goals as goal
+use Rattle.feed.proofs.packed.PackedFormat.read_at.Goals as goal
 
 pub returns-then-left-eq0 : goal.returns-then-left-eq0
 returns-then-left-eq0 c = packed_none c.args.bytes.now c.args.start c.requires c.if-left-eq0.true

@@ -1,0 +1,33 @@
+// The formats that a feed reads.
+ghost use Rattle.std.specs.Prelude.{ℕ, ◌≤◌, List, length};
+ghost use Rattle.line.specs.declared.Line.{Line};
+ghost use Rattle.feed.specs.declared.answers.Ending.{Ending};
+ghost use Rattle.feed.specs.Meaning.{At, FeedEnding, FeedLayer};
+
+use crate::Next;
+
+// A format means, of bytes and a place in them, the lines from there on and an ending, and of a
+// line, how many bytes it takes.
+pub trait Format {
+    // The layer that a fault of this format carries.
+    const LAYER: u8;
+
+    ghost LAYER: { ℕ };
+
+    ghost lines: { List ℕ → ℕ → List Line };
+
+    ghost long: { Line → ℕ };
+
+    ghost ending: { List ℕ → ℕ → Ending };
+
+    // What each format owes: a lawful layer, and lawful faults.
+    ghost layer: { FeedLayer LAYER };
+
+    ghost faults: { (bytes : List ℕ) (at : ℕ) → FeedEnding (ending bytes at) };
+
+    // What stands at a place of the bytes, and the place behind it: that of the next line, or the
+    // same where there is no line.
+    fn read_at(bytes: &[u8], start: usize) -> (Next, usize)
+        requires { start ≤ length bytes.now }
+        ensures { At (length bytes.now) (lines bytes.now) long (ending bytes.now) start result.0 result.1 };
+}
