@@ -1,7 +1,7 @@
 -- What a packed feed finds is what the bytes spell, and nothing else is. Assumes nothing.
-use Rattle.std.proofs.Common.{◌≡◌, ℕ, zero, suc, ◌+◌, ◌-◌, ◌*◌, ◌/◌, ◌%◌, ◌^◌, ◌<◌, ◌≤◌, cond, eqb, List, [], ◌∷◌, ◌++◌, map, length, get_or, drop, sym, refl, ap, ◌∙◌, subst, append_assoc, append-nil, arith, length-drop}
+use Rattle.std.proofs.Common.{◌≡◌, ℕ, zero, suc, ◌+◌, ◌-◌, ◌*◌, ◌/◌, ◌%◌, ◌^◌, ◌<◌, ◌≤◌, cond, eqb, List, [], ◌∷◌, ◌++◌, map, length, get_or, take, drop, sym, refl, ap, ◌∙◌, subst, append_assoc, append-nil, add_assoc, add-zero, arith, length-drop}
 use Rattle.std.specs.List.{flat_map, AllByRecursion}
-use Rattle.std.proofs.lemmas.List.{drop_more}
+use Rattle.std.proofs.lemmas.List.{drop_more, get_or-drop, take_rest}
 use Rattle.std.proofs.lemmas.Bool.{cond-true, cond-false, cond_both, eq-eqb, ne_eqb, eqb-true, eqb-false}
 use Rattle.line.specs.declared.Line.{Line}
 use Rattle.feed.specs.declared.answers.Cause.TheVariants.{Torn}
@@ -13,29 +13,43 @@ use Rattle.feed.specs.Packed.{word_at, line_at, lines_from, count, lines_at, end
 use Rattle.feed.specs.Spelled.{OneReading, PackedEnds, PackedReads, Words, packed, word}
 use Rattle.feed.proofs.Rests.{no_line, one_line, same_rest}
 
--- what is answered at a place
+-- what is answered at a place, by what is left from there on
+
+abbrev left : List ℕ → ℕ → List ℕ
+left bytes start = take (length bytes - start) (drop start bytes)
+
+long_left : (bytes : List ℕ) (start : ℕ) → length (left bytes start) ≡ length bytes - start
+long_left bytes start = ap length (take_rest bytes start) ∙ length-drop start bytes
+
+first_left : (bytes : List ℕ) (at : ℕ) → line_at (left bytes at) 0 ≡ line_at bytes at
+first_left bytes at = rw take_rest (simp (get_or-drop, add_assoc, add-zero))
 
 module _ (bytes : List ℕ) (start : ℕ) (inside : start ≤ length bytes) where
   none_left : length bytes - start < 8 → lines_at bytes start ≡ []
   unfolding lines_from
   none_left h = let e : count bytes start ≡ 0 = omega arith in ap (λ (n : ℕ). lines_from n bytes start) e
 
-  pub packed_none : length bytes - start ≡ 0 → PackedAt bytes start (Ended Clean) start
-  packed_none h = no_line inside (none_left (omega arith)) (cond-true _ _ _ (eq-eqb ((length bytes - start) % 8) 0 (omega arith)))
+  pub packed_none : length (left bytes start) ≡ 0 → PackedAt bytes start (Ended Clean) start
+  packed_none h =
+      let long = long_left bytes start in
+      no_line inside (none_left (omega arith)) (cond-true _ _ _ (eq-eqb ((length bytes - start) % 8) 0 (omega arith)))
 
-  pub packed_torn : (length bytes - start ≡ 0 → ⊥) → length bytes - start < 8 → PackedAt bytes start (Ended (Faulty (fault 3 Torn start))) start
+  pub packed_torn : (length (left bytes start) ≡ 0 → ⊥) → length (left bytes start) < 8 → PackedAt bytes start (Ended (Faulty (fault 3 Torn start))) start
   packed_torn some h =
+      let long = long_left bytes start in
       let place : start + count bytes start * 8 ≡ start = omega arith in
-      no_line inside (none_left h)
+      no_line inside (none_left (omega arith))
       (cond-false _ _ _ (ne_eqb ((length bytes - start) % 8) 0 (λ e. some (omega arith))) ∙ ap (λ (p : ℕ). Faulty (fault 3 Torn p)) place)
 
-  pub packed_line : 8 ≤ length bytes - start → PackedAt bytes start (Handed (line_at bytes start)) (start + 8)
+  pub packed_line : (l : Line) → 8 ≤ length (left bytes start) → l ≡ line_at (left bytes start) 0 → PackedAt bytes start (Handed l) (start + 8)
   unfolding lines_from
-  packed_line h =
+  packed_line l h is =
+      let long = long_left bytes start in
       let more : suc (count bytes (start + 8)) ≡ count bytes start = omega arith in
       let left : (length bytes - (start + 8)) % 8 ≡ (length bytes - start) % 8 = omega arith in
       let place : start + 8 + count bytes (start + 8) * 8 ≡ start + count bytes start * 8 = omega arith in
-      one_line (omega arith) (ap (λ (n : ℕ). lines_from n bytes start) more) (λ i. cond (eqb (left i) 0) Clean (Faulty (fault 3 Torn (place i)))) refl
+      one_line (omega arith) (ap (λ (m : Line). m ∷ lines_at bytes (start + 8)) (is ∙ first_left bytes start) ∙ ap (λ (n : ℕ). lines_from n bytes start) more)
+      (λ i. cond (eqb (left i) 0) Clean (Faulty (fault 3 Torn (place i)))) refl
 
 -- four bytes, and eight
 

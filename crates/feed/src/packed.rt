@@ -1,5 +1,5 @@
 // The packed feed.
-ghost use Rattle.std.specs.Prelude.{◌≡◌, ℕ, ◌+◌, ◌<◌, ◌≤◌, List, length, slice_index};
+ghost use Rattle.std.specs.Prelude.{◌≡◌, ℕ, ◌<◌, ◌≤◌, List, length, MatchOption};
 ghost use Rattle.std.specs.List.{flat_map, AllByRecursion};
 ghost use Rattle.line.specs.declared.Line.{Line};
 ghost use Rattle.feed.specs.Packed as packed;
@@ -17,15 +17,6 @@ pub struct Packed;
 // The lines that a packed log spells, from the cursor on. It borrows the log.
 pub type PackedFeed<'a> = ByteFeed<'a, Packed>;
 
-// Each element of a slice of bytes is one: the prover is told so where an element is read.
-fn are_bytes(bytes: &[u8])
-    ensures { (k : ℕ) → slice_index bytes.now k < 256 }
-{
-    if !bytes.is_empty() {
-        let _ = bytes[0];
-    }
-}
-
 impl<'a> PackedFeed<'a> {
     // A feed of the lines that the bytes spell. They spell them in one way only, and lines that
     // were spelled out come back.
@@ -35,17 +26,20 @@ impl<'a> PackedFeed<'a> {
         ensures once { OneReading (PackedReads bytes.now) }
         ensures back { (ls : List Line) → AllByRecursion Words ls → flat_map spelled.packed ls ≡ bytes.now → (packed.lines result ≡ ls) × (packed.ending result ≡ Ending.Clean) }
     {
-        are_bytes(bytes);
         ByteFeed::over(bytes)
     }
 }
 
-// The number of 32 bits at a place, its higher byte first.
-fn word(bytes: &[u8], at: usize) -> u32
-    requires { at + 4 ≤ length bytes.now }
-    ensures { result ≡ packed.word_at bytes.now at }
+// The line that bytes begin with, where there are eight of them.
+fn first_line(bytes: &[u8]) -> Option<Line>
+    ensures { MatchOption result (length bytes.now < 8) (λ line. (8 ≤ length bytes.now) × (line ≡ packed.line_at bytes.now 0)) }
 {
-    u32::from_be_bytes([bytes[at], bytes[at + 1], bytes[at + 2], bytes[at + 3]])
+    let (time, rest) = bytes.split_first_chunk()?;
+    let (marks, _) = rest.split_first_chunk()?;
+    Some(Line {
+        time: u32::from_be_bytes(*time),
+        marks: u32::from_be_bytes(*marks),
+    })
 }
 
 impl Format for Packed {
@@ -64,20 +58,18 @@ impl Format for Packed {
     ghost faults = { packed.faults };
 
     fn read_at(bytes: &[u8], start: usize) -> (Next, usize) {
-        let left = bytes.len() - start;
-        if left == 0 {
-            return (Next::Ended(Ending::Clean), start);
+        let left = &bytes[start..];
+        match first_line(left) {
+            Some(line) => (Next::Line(line), start + 8),
+            None if left.is_empty() => (Next::Ended(Ending::Clean), start),
+            None => {
+                let fault = Fault {
+                    layer: Packed::LAYER,
+                    number: u8::from(Cause::Torn),
+                    place: start as u64,
+                };
+                (Next::Ended(Ending::Fault(fault)), start)
+            }
         }
-        if left < 8 {
-            let fault = Fault {
-                layer: Packed::LAYER,
-                number: u8::from(Cause::Torn),
-                place: start as u64,
-            };
-            return (Next::Ended(Ending::Fault(fault)), start);
-        }
-        let time = word(bytes, start);
-        let marks = word(bytes, start + 4);
-        (Next::Line(Line { time, marks }), start + 8)
     }
 }

@@ -15,7 +15,7 @@ pub enum State {
     Hyphen { time: u32 },
 }
 
-// Where a byte leads.
+// Where a byte leads. Three ways and no Option: only the first goes on with the same line.
 #[derive(Clone, Copy)]
 pub enum Step {
     On(State),
@@ -27,10 +27,9 @@ pub enum Step {
 fn digit(b: u8) -> Option<u32>
     ensures { result ≡ (if is_digit b then Some (b - 48) else None) }
 {
-    if b >= b'0' && b <= b'9' {
-        Some(u32::from(b - b'0'))
-    } else {
-        None
+    match b {
+        b'0'..=b'9' => Some(u32::from(b - b'0')),
+        _ => None,
     }
 }
 
@@ -38,10 +37,9 @@ fn digit(b: u8) -> Option<u32>
 fn letter(b: u8) -> Option<u32>
     ensures { result ≡ (if is_letter b then Some (2 ^ (b - 97)) else None) }
 {
-    if b >= b'a' && b <= b'z' {
-        Some(1u32 << (b - b'a'))
-    } else {
-        None
+    match b {
+        b'a'..=b'z' => Some(1 << (b - b'a')),
+        _ => None,
     }
 }
 
@@ -50,12 +48,10 @@ fn longer(time: u32, d: u32) -> Option<u32>
     requires { d < 10 }
     ensures { result ≡ (if nat_lt 0 time && nat_lt (time * 10 + d) (2 ^ 32) then Some (time * 10 + d) else None) }
 {
-    let longer = u64::from(time) * 10 + u64::from(d);
-    if time > 0 && longer <= u64::from(u32::MAX) {
-        Some(longer as u32)
-    } else {
-        None
+    if time == 0 {
+        return None;
     }
+    time.checked_mul(10)?.checked_add(d)
 }
 
 impl State {
@@ -98,10 +94,7 @@ fn read_time(time: u32, b: u8) -> Step
     if b == b' ' {
         return Step::On(State::Space { time });
     }
-    let Some(d) = digit(b) else {
-        return Step::Wrong;
-    };
-    match longer(time, d) {
+    match digit(b).and_then(|d| longer(time, d)) {
         Some(time) => Step::On(State::Time { time }),
         None => Step::Wrong,
     }
