@@ -1,5 +1,5 @@
 -- What a packed feed finds is what the bytes spell, and nothing else is. Assumes nothing.
-use Rattle.std.proofs.Common.{◌≡◌, ℕ, zero, suc, ◌+◌, ◌-◌, ◌*◌, ◌/◌, ◌%◌, ◌^◌, ◌<◌, ◌≤◌, cond, eqb, List, [], ◌∷◌, ◌++◌, map, length, get_or, take, drop, sym, refl, ap, ◌∙◌, subst, append_assoc, append-nil, add_assoc, add-zero, arith, length-drop}
+use Rattle.std.proofs.Common.{◌≡◌, ℕ, zero, suc, ◌+◌, ◌-◌, ◌*◌, ◌/◌, ◌%◌, ◌^◌, ◌<◌, ◌≤◌, cond, eqb, List, [], ◌∷◌, ◌++◌, map, length, get_or, drop, sym, refl, ap, ◌∙◌, subst, append_assoc, append-nil, add_assoc, add-zero, arith, length-drop}
 use Rattle.std.specs.List.{flat_map, AllByRecursion}
 use Rattle.std.proofs.lemmas.List.{drop_more, get_or-drop, take_rest}
 use Rattle.std.proofs.lemmas.Bool.{cond-true, cond-false, cond_both, eq-eqb, ne_eqb, eqb-true, eqb-false}
@@ -11,18 +11,12 @@ use Rattle.feed.specs.declared.answers.Next.TheVariants.{Line as Handed, Ended}
 use Rattle.feed.specs.Codes.{fault}
 use Rattle.feed.specs.Packed.{word_at, line_at, lines_from, count, lines_at, end_at, PackedAt}
 use Rattle.feed.specs.Spelled.{OneReading, PackedEnds, PackedReads, Words, packed, word}
-use Rattle.feed.proofs.Rests.{no_line, one_line, same_rest}
+use Rattle.feed.proofs.Rests.{left, long_left, byte_left, no_line, one_line, same_rest}
 
 -- what is answered at a place, by what is left from there on
 
-abbrev left : List ℕ → ℕ → List ℕ
-left bytes start = take (length bytes - start) (drop start bytes)
-
-long_left : (bytes : List ℕ) (start : ℕ) → length (left bytes start) ≡ length bytes - start
-long_left bytes start = ap length (take_rest bytes start) ∙ length-drop start bytes
-
 first_left : (bytes : List ℕ) (at : ℕ) → line_at (left bytes at) 0 ≡ line_at bytes at
-first_left bytes at = rw take_rest (simp (get_or-drop, add_assoc, add-zero))
+first_left bytes at = simp (byte_left, add_assoc, add-zero)
 
 module _ (bytes : List ℕ) (start : ℕ) (inside : start ≤ length bytes) where
   none_left : length bytes - start < 8 → lines_at bytes start ≡ []

@@ -1,5 +1,6 @@
 -- What bytes of either format have in common: what is left behind their lines. Assumes nothing.
-use Rattle.std.proofs.Common.{◌≡◌, ℕ, ◌+◌, ◌≤◌, List, [], ◌∷◌, ◌++◌, map, get_or, drop, sym, refl, ap, ◌∙◌, add-zero}
+use Rattle.std.proofs.Common.{◌≡◌, ℕ, ◌+◌, ◌-◌, ◌≤◌, List, [], ◌∷◌, ◌++◌, map, length, get_or, take, drop, sym, refl, ap, ◌∙◌, add-zero, length-drop}
+use Rattle.std.proofs.lemmas.List.{get_or-drop, take_rest}
 use mathlib.Core.List.{append_cancel_left}
 use Rattle.std.specs.List.{flat_map}
 use Rattle.line.specs.declared.Line.{Line}
@@ -11,6 +12,17 @@ use Rattle.feed.specs.Meaning.{answer, At}
 pub same_rest : (spelling : Line → List ℕ) (bytes : List ℕ) (ls ms : List Line) (r s : List ℕ) → ls ≡ ms → flat_map spelling ls ++ r ≡ bytes → flat_map spelling ms ++ s ≡ bytes → r ≡ s
 same_rest spelling bytes ls ms r s same p q =
     append_cancel_left (flat_map spelling ls) r s (p ∙ sym q ∙ ap (λ (ns : List Line). flat_map spelling ns ++ s) (sym same))
+
+-- what is left of bytes from a place on, as code reads it
+
+abbrev pub left : List ℕ → ℕ → List ℕ
+left bytes start = take (length bytes - start) (drop start bytes)
+
+pub long_left : (bytes : List ℕ) (start : ℕ) → length (left bytes start) ≡ length bytes - start
+long_left bytes start = ap length (take_rest bytes start) ∙ length-drop start bytes
+
+pub byte_left : (bytes : List ℕ) (start i : ℕ) → get_or (left bytes start) i 0 ≡ get_or bytes (start + i) 0
+byte_left bytes start i = ap (λ (l : List ℕ). get_or l i 0) (take_rest bytes start) ∙ get_or-drop start bytes i 0
 
 -- what is answered where no line is left, and where one is
 module _ {size start : ℕ} {lines : ℕ → List Line} {long : Line → ℕ} {end : ℕ → Ending} (inside : start ≤ size) where

@@ -1,10 +1,12 @@
 // The formats that a feed reads.
-ghost use Rattle.std.specs.Prelude.{ℕ, ◌≤◌, List, length};
+ghost use Rattle.std.specs.Prelude.{◌≡◌, ℕ, ◌≤◌, List, length};
 ghost use Rattle.line.specs.declared.Line.{Line};
 ghost use Rattle.feed.specs.declared.answers.Ending.{Ending};
+ghost use Rattle.feed.specs.Codes as codes;
 ghost use Rattle.feed.specs.Meaning.{At, FeedEnding, FeedLayer};
 
-use crate::Next;
+use crate::{Cause, Ending, Next};
+use line::Fault;
 
 // A format means, of bytes and a place in them, the lines from there on and an ending, and of a
 // line, how many bytes it takes.
@@ -30,4 +32,15 @@ pub trait Format {
     fn read_at(bytes: &[u8], start: usize) -> (Next, usize)
         requires { start ≤ length bytes.now }
         ensures { At (length bytes.now) (lines bytes.now) long (ending bytes.now) start result.0 result.1 };
+}
+
+// The ending in a fault, at a place.
+pub fn fault(layer: u8, cause: Cause, place: usize) -> Next
+    ensures { result ≡ Next.Ended (Ending.Fault (codes.fault layer cause place)) }
+{
+    Next::Ended(Ending::Fault(Fault {
+        layer,
+        number: u8::from(cause),
+        place: place as u64,
+    }))
 }

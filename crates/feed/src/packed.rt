@@ -7,9 +7,9 @@ ghost use Rattle.feed.specs.Spelled as spelled;
 ghost use Rattle.feed.specs.Spelled.{OneReading, PackedReads, Words};
 
 use crate::bytes::ByteFeed;
-use crate::format::Format;
+use crate::format::{Format, fault};
 use crate::{Cause, Ending, Next};
-use line::{Fault, Line};
+use line::Line;
 
 // Eight bytes a line: its time and its marks, four bytes each, the higher byte first.
 pub struct Packed;
@@ -62,14 +62,7 @@ impl Format for Packed {
         match first_line(left) {
             Some(line) => (Next::Line(line), start + 8),
             None if left.is_empty() => (Next::Ended(Ending::Clean), start),
-            None => {
-                let fault = Fault {
-                    layer: Packed::LAYER,
-                    number: u8::from(Cause::Torn),
-                    place: start as u64,
-                };
-                (Next::Ended(Ending::Fault(fault)), start)
-            }
+            None => (fault(Packed::LAYER, Cause::Torn, start), start),
         }
     }
 }

@@ -4,7 +4,6 @@ ghost use Rattle.std.specs.List.{flat_map, AllByRecursion};
 ghost use Rattle.line.specs.declared.Line.{Line};
 ghost use Rattle.line.specs.Spelling as spelling;
 ghost use Rattle.line.specs.Spelling.{Lawful};
-ghost use Rattle.feed.specs.Codes as codes;
 ghost use Rattle.feed.specs.Spelled.{OneReading, TextReads};
 ghost use Rattle.feed.specs.Text as text;
 ghost use Rattle.feed.specs.TextLaws as text_laws;
@@ -12,9 +11,8 @@ ghost use Rattle.feed.specs.TextLaws as text_laws;
 mod machine;
 
 use crate::bytes::ByteFeed;
-use crate::format::Format;
+use crate::format::{Format, fault};
 use crate::{Cause, Ending, Next};
-use line::Fault;
 use machine::{State, Step};
 
 // A text a line: its time in decimal, a space, its marks and a line feed.
@@ -36,17 +34,6 @@ impl<'a> TextFeed<'a> {
     }
 }
 
-// The fault of a text log at a place.
-fn fault(cause: Cause, place: usize) -> Next
-    ensures { result ≡ Next.Ended (Ending.Fault (codes.fault 4 cause place)) }
-{
-    Next::Ended(Ending::Fault(Fault {
-        layer: Text::LAYER,
-        number: u8::from(cause),
-        place: place as u64,
-    }))
-}
-
 impl Format for Text {
     const LAYER: u8 = 4;
 
@@ -64,16 +51,16 @@ impl Format for Text {
 
     fn read_at(bytes: &[u8], start: usize) -> (Next, usize) {
         let mut state = State::Start;
-        for i in start..bytes.len() {
-            match state.read(bytes[i]) {
+        for (i, byte) in bytes[start..].iter().enumerate() {
+            match state.read(*byte) {
                 Step::On(on) => state = on,
-                Step::Line(line) => return (Next::Line(line), i + 1),
-                Step::Wrong => return (fault(state.cause(), i), start),
+                Step::Line(line) => return (Next::Line(line), start + i + 1),
+                Step::Wrong => return (fault(Text::LAYER, state.cause(), start + i), start),
             }
         }
         match state {
             State::Start => (Next::Ended(Ending::Clean), start),
-            _ => (fault(Cause::Cut, bytes.len()), start),
+            _ => (fault(Text::LAYER, Cause::Cut, bytes.len()), start),
         }
     }
 }

@@ -11,5 +11,5 @@ returns-in-None c = packed_none c.args.bytes.now c.args.start c.requires (eqb-tr
 
 pub returns-in-None-2 : goal.returns-in-None-2
 returns-in-None-2 c =
-    rw c.from.ensures
+    rw c.fault.ensures
     (packed_torn c.args.bytes.now c.args.start c.requires (eqb-false _ 0 (sym c.if-is_empty.ensures)) c.in-None.ensures)
