@@ -91,3 +91,13 @@ fn spells_a_line_as_the_log_does(rt: HostRuntime) -> Result<(), Fail> {
     assert_eq!(rt; text.as_str(), "4294967295 az");
     Ok(())
 }
+
+#[test]
+fn prints_a_fault_by_its_numbers(rt: HostRuntime) -> Result<(), Fail> {
+    let Next::Ended(Ending::Fault(fault)) = TextFeed::new(b"07 b").next() else {
+        return Err(Fail::new("a fault"));
+    };
+    let text = format!(in rt.alloc(); "{fault}")?;
+    assert_eq!(rt; text.as_str(), "4 52 1");
+    Ok(())
+}
