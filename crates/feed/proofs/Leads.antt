@@ -6,6 +6,7 @@ use Rattle.std.proofs.lemmas.Bool.{and_from, ne_eqb, le-leb, lt-ltb, cond-true, 
 use Rattle.line.specs.declared.Line.{Line}
 use Rattle.line.specs.Spelling.{letters_below, text, Lawful}
 use Rattle.line.proofs.Letters.{letters_push, marks_by_steps, no_letters}
+use Rattle.feed.specs.declared.answers.Cause.TheVariants.{Cut}
 use Rattle.feed.specs.declared.answers.Ending.{Ending}
 use Rattle.feed.specs.declared.answers.Ending.TheVariants.{Fault as Faulty}
 use Rattle.feed.specs.declared.text.machine.State.{State}
@@ -13,7 +14,7 @@ use Rattle.feed.specs.declared.text.machine.State.TheVariants.{Start, Time, Spac
 use Rattle.feed.specs.declared.text.machine.Step.{Step}
 use Rattle.feed.specs.declared.text.machine.Step.TheVariants.{On, Line as Done, Wrong}
 use Rattle.feed.specs.Codes.{fault}
-use Rattle.feed.specs.Machine.{is_digit, is_letter, cause, lines_from, end_from, said, step}
+use Rattle.feed.specs.Machine.{is_digit, is_letter, cause, lines_from, end_from, said, step, stop}
 use Rattle.feed.specs.Spelled.{Begins, Unfinished}
 use Rattle.feed.proofs.Steps.{Sound, Tells, tells, last}
 
@@ -30,32 +31,34 @@ end_by s p Wrong bs = Faulty (fault 4 (cause s) p)
 
 pub lines_step : (s : State) (b : ℕ) (bs : List ℕ) (x : Step) → step s b ≡ x → lines_from s (b ∷ bs) ≡ lines_by x bs
 unfolding lines_from
-lines_step s b bs x e = go (step s b) ∙ ap (λ (y : Step). lines_by y bs) e
-  where
-    go : (y : Step) → (elim y as (λ _. List Line) [ On t ↦ lines_from t bs | Done l ↦ l ∷ lines_from Start bs | Wrong ↦ [] ]) ≡ lines_by y bs
-    go (On t) = refl
-    go (Done l) = refl
-    go Wrong = refl
+lines_step s b bs (On t) e = rw (e, lines_from)
+lines_step s b bs (Done l) e = rw (e, lines_from)
+lines_step s b bs Wrong e = rw (e, lines_from)
 
 pub end_step : (s : State) (p b : ℕ) (bs : List ℕ) (x : Step) → step s b ≡ x → end_from s p (b ∷ bs) ≡ end_by s p x bs
 unfolding end_from
-end_step s p b bs x e = go (step s b) ∙ ap (λ (y : Step). end_by s p y bs) e
-  where
-    go : (y : Step) → (elim y as (λ _. Ending) [ On t ↦ end_from t (suc p) bs | Done l ↦ end_from Start (suc p) bs | Wrong ↦ Faulty (fault 4 (cause s) p) ]) ≡ end_by s p y bs
-    go (On t) = refl
-    go (Done l) = refl
-    go Wrong = refl
+end_step s p b bs (On t) e = rw (e, end_from)
+end_step s p b bs (Done l) e = rw (e, end_from)
+end_step s p b bs Wrong e = rw (e, end_from)
+
+-- a text that ends inside a line is cut
+pub stop_inside : (s : State) (p : ℕ) → (s ≡ Start → ⊥) → stop s p ≡ Faulty (fault 4 Cut p)
+stop_inside Start p h = absurd (h refl)
+stop_inside (Time t) p h = refl
+stop_inside (Space t) p h = refl
+stop_inside (Marks t m) p h = refl
+stop_inside (Hyphen t) p h = refl
 
 -- reading xs leads from a state to another, inside one line
 abbrev pub Leads : State → List ℕ → State → Type 0
 Leads s [] u = s ≡ u
 Leads s (b ∷ bs) u = (t : State) × (step s b ≡ On t) × Leads t bs u
 
-pub leads_push : (s : State) (xs : List ℕ) (t : State) (b : ℕ) (u : State) → Leads s xs t → step t b ≡ On u → Leads s (xs ++ b ∷ []) u
+leads_push : (s : State) (xs : List ℕ) (t : State) (b : ℕ) (u : State) → Leads s xs t → step t b ≡ On u → Leads s (xs ++ b ∷ []) u
 leads_push s [] t b u e h = (u, ap (λ (x : State). step x b) e ∙ h, refl)
 leads_push s (x ∷ xs) t b u l h = (l.0, l.1, leads_push l.0 xs t b u l.2 h)
 
-pub leads_append : (s : State) (xs : List ℕ) (t : State) (ys : List ℕ) (u : State) → Leads s xs t → Leads t ys u → Leads s (xs ++ ys) u
+leads_append : (s : State) (xs : List ℕ) (t : State) (ys : List ℕ) (u : State) → Leads s xs t → Leads t ys u → Leads s (xs ++ ys) u
 leads_append s [] t ys u e h = subst (λ (x : State). Leads x ys u) (sym e) h
 leads_append s (x ∷ xs) t ys u l h = (l.0, l.1, leads_append l.0 xs t ys u l.2 h)
 
@@ -137,7 +140,7 @@ letters_arrive t m h =
 space_arrives : (t : ℕ) → t < 2 ^ 32 → Leads Start (decimal t ++ 32 ∷ []) (Space t)
 space_arrives t h = leads_push Start (decimal t) (Time t) 32 (Space t) (time_arrives t h) refl
 
-pub arrives : (s : State) → Sound s → Leads Start (said s) s
+arrives : (s : State) → Sound s → Leads Start (said s) s
 arrives Start h = refl
 arrives (Time t) h = time_arrives t h
 arrives (Space t) h = space_arrives t h
@@ -202,7 +205,7 @@ pub record Halts (s : State) (xs : List ℕ) : Type 0 where
   pub leads : Leads s before state
   pub how : ((l : Line) × (step state byte ≡ Done l)) ⊎ (step state byte ≡ Wrong)
 
-pub outcome : (s : State) (xs : List ℕ) → ((t : State) × Leads s xs t) ⊎ Halts s xs
+outcome : (s : State) (xs : List ℕ) → ((t : State) × Leads s xs t) ⊎ Halts s xs
 outcome s [] = inl (s, refl)
 outcome s (x ∷ xs) = go (λ t. outcome t xs) (step s x) refl
   where

@@ -47,14 +47,14 @@ module _ (bytes : List ℕ) (start : ℕ) (inside : start ≤ length bytes) wher
 
 -- four bytes, and eight
 
-word_of : (a b c d : ℕ) → a < 256 → b < 256 → c < 256 → d < 256 → word (a * 16777216 + b * 65536 + c * 256 + d) ≡ a ∷ b ∷ c ∷ d ∷ []
-word_of a b c d ha hb hc hd =
+word_of : (a b c d : ℕ) (xs : List ℕ) → a < 256 → b < 256 → c < 256 → d < 256 → word (a * 16777216 + b * 65536 + c * 256 + d) ++ xs ≡ a ∷ b ∷ c ∷ d ∷ xs
+word_of a b c d xs ha hb hc hd =
     let n : ℕ = a * 16777216 + b * 65536 + c * 256 + d in
     let ea : n / 16777216 % 256 ≡ a = omega arith in
     let eb : n / 65536 % 256 ≡ b = omega arith in
     let ec : n / 256 % 256 ≡ c = omega arith in
     let ed : n % 256 ≡ d = omega arith in
-    λ i. ea i ∷ eb i ∷ ec i ∷ ed i ∷ []
+    λ i. ea i ∷ eb i ∷ ec i ∷ ed i ∷ xs
 
 same_word : (m n : ℕ) (xs ys : List ℕ) → m < 2 ^ 32 → n < 2 ^ 32 → word m ++ xs ≡ word n ++ ys → (m ≡ n) × (xs ≡ ys)
 same_word m n xs ys hm hn e =
@@ -67,24 +67,17 @@ same_word m n xs ys hm hn e =
 module _ (bytes : List ℕ) (fits : (k : ℕ) → get_or bytes k 0 < 256) where
   four : (at : ℕ) → at + 4 ≤ length bytes → drop at bytes ≡ word (word_at bytes at) ++ drop (at + 4) bytes
   four at h =
-      let b : drop (at + 1) bytes ≡ get_or bytes (at + 1) 0 ∷ drop (at + 1 + 1) bytes = drop_more bytes (at + 1) 0 (omega arith) in
-      let e2 : at + 1 + 1 ≡ at + 2 = omega arith in
-      let c : drop (at + 2) bytes ≡ get_or bytes (at + 2) 0 ∷ drop (at + 2 + 1) bytes = drop_more bytes (at + 2) 0 (omega arith) in
-      let e3 : at + 2 + 1 ≡ at + 3 = omega arith in
-      let d : drop (at + 3) bytes ≡ get_or bytes (at + 3) 0 ∷ drop (at + 3 + 1) bytes = drop_more bytes (at + 3) 0 (omega arith) in
-      let e4 : at + 3 + 1 ≡ at + 4 = omega arith in
-      let w = word_of (get_or bytes at 0) (get_or bytes (at + 1) 0) (get_or bytes (at + 2) 0) (get_or bytes (at + 3) 0) (fits at) (fits (at + 1)) (fits (at + 2)) (fits (at + 3)) in
-      drop_more bytes at 0 (omega arith)
-      ∙ ap (λ (l : List ℕ). get_or bytes at 0 ∷ l) (b ∙ ap (λ (k : ℕ). get_or bytes (at + 1) 0 ∷ drop k bytes) e2
-      ∙ ap (λ (l : List ℕ). get_or bytes (at + 1) 0 ∷ l) (c ∙ ap (λ (k : ℕ). get_or bytes (at + 2) 0 ∷ drop k bytes) e3
-      ∙ ap (λ (l : List ℕ). get_or bytes (at + 2) 0 ∷ l) (d ∙ ap (λ (k : ℕ). get_or bytes (at + 3) 0 ∷ drop k bytes) e4)))
-      ∙ ap (λ (l : List ℕ). l ++ drop (at + 4) bytes) (sym w)
+      let a = drop_more bytes at 0 (omega arith) in
+      let b = simp add_assoc at (drop_more bytes (at + 1) 0 (omega arith)) in
+      let c = simp add_assoc at (drop_more bytes (at + 2) 0 (omega arith)) in
+      let d = simp add_assoc at (drop_more bytes (at + 3) 0 (omega arith)) in
+      let w = word_of (get_or bytes at 0) (get_or bytes (at + 1) 0) (get_or bytes (at + 2) 0) (get_or bytes (at + 3) 0) (drop (at + 4) bytes) (fits at) (fits (at + 1)) (fits (at + 2)) (fits (at + 3)) in
+      cc
 
   eight : (at : ℕ) → at + 8 ≤ length bytes → drop at bytes ≡ packed (line_at bytes at) ++ drop (at + 8) bytes
   eight at h =
       let e : at + 4 + 4 ≡ at + 8 = omega arith in
       four at (omega arith) ∙ ap (λ (l : List ℕ). word (word_at bytes at) ++ l) (four (at + 4) (omega arith) ∙ ap (λ (k : ℕ). word (word_at bytes (at + 4)) ++ drop k bytes) e)
-      ∙ sym (append_assoc (word (word_at bytes at)) (word (word_at bytes (at + 4))) (drop (at + 8) bytes))
 
   words : (at : ℕ) → Words (line_at bytes at)
   words at = record {

@@ -1,5 +1,5 @@
 -- The loop that reads one line of a text: what it keeps, and what its ways out answer. Assumes nothing.
-use Rattle.std.proofs.Common.{◌≡◌, ℕ, ◌+◌, ◌<◌, ◌≤◌, List, [], ◌∷◌, ◌++◌, length, get_or, drop, sym, refl, ap, ◌∙◌, subst, add-zero, add-one, add_assoc, arith, length-append}
+use Rattle.std.proofs.Common.{◌≡◌, ℕ, ◌+◌, ◌<◌, ◌≤◌, List, [], ◌∷◌, ◌++◌, length, get_or, drop, sym, ap, ◌∙◌, subst, add-one, add_assoc, arith, length-append}
 use Rattle.std.proofs.lemmas.List.{drop_more, drop_all}
 use Rattle.line.specs.declared.Line.{Line}
 use Rattle.line.specs.Spelling.{text}
@@ -8,14 +8,14 @@ use Rattle.feed.specs.declared.answers.Ending.{Ending}
 use Rattle.feed.specs.declared.answers.Ending.TheVariants.{Clean, Fault as Faulty}
 use Rattle.feed.specs.declared.answers.Next.TheVariants.{Line as Handed, Ended}
 use Rattle.feed.specs.declared.text.machine.State.{State}
-use Rattle.feed.specs.declared.text.machine.State.TheVariants.{Start, Time, Space, Marks, Hyphen}
+use Rattle.feed.specs.declared.text.machine.State.TheVariants.{Start}
 use Rattle.feed.specs.declared.text.machine.Step.{Step}
 use Rattle.feed.specs.declared.text.machine.Step.TheVariants.{On, Line as Done, Wrong}
 use Rattle.feed.specs.Codes.{fault}
 use Rattle.feed.specs.Machine.{lines_from, end_from, said, step, stop, cause}
 use Rattle.feed.specs.Text.{lines_at, end_at, TextAt}
 use Rattle.feed.proofs.Rests.{left, long_left, byte_left, no_line, one_line}
-use Rattle.feed.proofs.Leads.{lines_by, end_by, lines_step, end_step}
+use Rattle.feed.proofs.Leads.{lines_by, end_by, lines_step, end_step, stop_inside}
 use Rattle.feed.proofs.Steps.{Sound, Tells, tells}
 
 -- from the place i on, the machine in its state finds what it finds from the start
@@ -24,16 +24,6 @@ pub record Sofar (bytes : List ℕ) (start : ℕ) (s : State) (i : ℕ) : Type 0
   pub ending : end_from s i (drop i bytes) ≡ end_at bytes start
   pub sound : Sound s
   pub place : start + length (said s) ≡ i
-
-pub at_start : (bytes : List ℕ) (start : ℕ) → Sofar bytes start Start start
-at_start bytes start = record { lines = refl; ending = refl; sound = tt; place = add-zero start }
-
-stop_inside : (s : State) (p : ℕ) → (s ≡ Start → ⊥) → stop s p ≡ Faulty (fault 4 Cut p)
-stop_inside Start p h = absurd (h refl)
-stop_inside (Time t) p h = refl
-stop_inside (Space t) p h = refl
-stop_inside (Marks t m) p h = refl
-stop_inside (Hyphen t) p h = refl
 
 module _ (bytes : List ℕ) (start : ℕ) (s : State) (i : ℕ) (inv : Sofar bytes start s (start + i)) (inside : start ≤ length bytes) where
   module _ (lt : i < length (left bytes start)) (x : Step) (is : x ≡ step s (get_or (left bytes start) i 0)) where

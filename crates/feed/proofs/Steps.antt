@@ -37,21 +37,25 @@ Tells s b (On u) = Onward s b u
 Tells s b (Done l) = Ends s b l
 Tells s b Wrong = Unit {0}
 
-tells_digit : (b : ℕ) → is_digit b ≡ true → Onward Start b (Time (b - 48))
-tells_digit b d =
+digit_of : (b : ℕ) → is_digit b ≡ true → (b - 48 < 10) × (48 + (b - 48) ≡ b)
+digit_of b d =
     let p = and_parts (leb 48 b) (leb b 57) d in
     let low = leb-true 48 b p.0 in
     let high = leb-true b 57 p.1 in
-    let e : b ≡ 48 + (b - 48) = omega arith in
-    record { sound = omega arith; says = ap (λ (x : ℕ). x ∷ []) e ∙ sym (decimal_digit (b - 48) (omega arith)) }
+    (omega arith, omega arith)
+
+tells_digit : (b : ℕ) → is_digit b ≡ true → Onward Start b (Time (b - 48))
+tells_digit b d =
+    let p = digit_of b d in
+    record { sound = omega (arith, p.0); says = ap (λ (x : ℕ). x ∷ []) (sym p.1) ∙ sym (decimal_digit (b - 48) p.0) }
 
 tells_longer : (t b : ℕ) → (is_digit b && (ltb 0 t && ltb (t * 10 + (b - 48)) (2 ^ 32))) ≡ true → Onward (Time t) b (Time (t * 10 + (b - 48)))
 tells_longer t b d =
     let p = and_parts (is_digit b) _ d in
     let q = and_parts (ltb 0 t) _ p.1 in
-    let r = and_parts (leb 48 b) (leb b 57) p.0 in
-    let low = leb-true 48 b r.0 in
-    let high = leb-true b 57 r.1 in
+    let r = digit_of b p.0 in
+    let small = r.0 in
+    let value = r.1 in
     let some = ltb-true 0 t q.0 in
     let fits = ltb-true (t * 10 + (b - 48)) (2 ^ 32) q.1 in
     let front : (t * 10 + (b - 48)) / 10 ≡ t = omega arith in
@@ -61,8 +65,8 @@ tells_longer t b d =
       says = sym (decimal_step (t * 10 + (b - 48)) (omega arith) (omega arith) ∙ λ i. decimal (front i) ++ back i ∷ []);
     }
 
-mark_of : (b : ℕ) → is_letter b ≡ true → (b - 97 < 26) × (97 + (b - 97) ≡ b)
-mark_of b d =
+letter_of : (b : ℕ) → is_letter b ≡ true → (b - 97 < 26) × (97 + (b - 97) ≡ b)
+letter_of b d =
     let p = and_parts (leb 97 b) (leb b 122) d in
     let low = leb-true 97 b p.0 in
     let high = leb-true b 122 p.1 in
@@ -70,7 +74,7 @@ mark_of b d =
 
 tells_first : (t b : ℕ) → t < 2 ^ 32 → is_letter b ≡ true → Onward (Space t) b (Marks t (2 ^ (b - 97)))
 tells_first t b h d =
-    let p = mark_of b d in
+    let p = letter_of b d in
     let e : 0 + 2 ^ (b - 97) ≡ 2 ^ (b - 97) = omega arith in
     let some : 0 < 2 ^ (b - 97) = Rattle.std.proofs.lemmas.Nat.pow_pos (b - 97) in
     let push = letters_push 0 (b - 97) some p.0 in
@@ -82,7 +86,7 @@ tells_first t b h d =
 tells_letter : (t m b : ℕ) → Sound (Marks t m) → (is_letter b && ltb m (2 ^ (b - 97))) ≡ true → Onward (Marks t m) b (Marks t (m + 2 ^ (b - 97)))
 tells_letter t m b h d =
     let q = and_parts (is_letter b) _ d in
-    let p = mark_of b q.0 in
+    let p = letter_of b q.0 in
     let above = ltb-true m (2 ^ (b - 97)) q.1 in
     let push = letters_push m (b - 97) above p.0 in
     let top : 2 ^ (b - 97) ≤ 2 ^ 25 = lib.Pow.pow_mono {i = b - 97} {j = 25} (omega (arith, p.0)) in

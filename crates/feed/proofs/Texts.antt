@@ -16,7 +16,7 @@ use Rattle.feed.specs.declared.text.machine.Step.TheVariants.{On, Line as Done, 
 use Rattle.feed.specs.Codes.{fault}
 use Rattle.feed.specs.Machine.{cause, lines_from, end_from, said, step, stop}
 use Rattle.feed.specs.Spelled.{Begins, spaced, TextEnds, TextReads, OneReading}
-use Rattle.feed.proofs.Leads.{lines_by, end_by, leads_lines, leads_end, leads_sound, lines_step, end_step, line_lines, line_end, none_begins, reaches}
+use Rattle.feed.proofs.Leads.{lines_by, end_by, leads_lines, leads_end, leads_sound, lines_step, end_step, line_lines, line_end, none_begins, reaches, stop_inside}
 use Rattle.feed.proofs.Rests.{same_rest}
 use Rattle.feed.proofs.Steps.{Sound, Tells, tells, goes_on}
 
@@ -159,13 +159,6 @@ no_step s b h none = go (step s b) refl (tells s b h)
     go (Done l) e told = absurd (none (l, told.lawful, ([], append-nil _ ∙ told.says)))
     go NoStep e told = e
 
-stop_short : (s : State) (p : ℕ) → 0 < length (said s) → stop s p ≡ Faulty (fault 4 Cut p)
-stop_short Start p h = absurd (omega arith)
-stop_short (Time t) p h = refl
-stop_short (Space t) p h = refl
-stop_short (Marks t m) p h = refl
-stop_short (Hyphen t) p h = refl
-
 -- the rest holds no line, and ends as it is told
 rest_ends : (start : ℕ) (rest : List ℕ) (ending : Ending) → TextEnds start rest ending → (lines_from Start rest ≡ []) × (end_from Start start rest ≡ ending)
 unfolding lines_from end_from
@@ -182,17 +175,17 @@ rest_ends start rest (Faulty f) (inr c) =
     let r = reaches rest c.good in
     let sound = leads_sound Start rest r.0 tt r.1 in (
       ap (lines_from Start) (sym (append-nil rest)) ∙ leads_lines Start rest r.0 [] r.1,
-      ap (end_from Start start) (sym (append-nil rest)) ∙ leads_end Start start rest r.0 [] r.1 ∙ stop_short r.0 _ (subst (λ (ys : List ℕ). 0 < length ys) sound.1 c.some) ∙ ap Faulty (sym c.told),
+      ap (end_from Start start) (sym (append-nil rest)) ∙ leads_end Start start rest r.0 [] r.1 ∙ stop_inside r.0 _ (λ e. omega (arith, c.some, ap length sound.1, ap (λ (s : State). length (said s)) e)) ∙ ap Faulty (sym c.told),
     )
 
 -- what reads a text is the machine's
 module _ (bytes : List ℕ) (ls : List Line) (ns rest : List ℕ) (ending : Ending) (r : TextReads bytes ls ns rest ending) where
-  pub lines_are : lines_from Start bytes ≡ ls
+  lines_are : lines_from Start bytes ≡ ls
   lines_are =
       ap (lines_from Start) (sym r.spelled.whole) ∙ spelled_lines ls rest r.lawful
       ∙ ap (λ (ms : List Line). ls ++ ms) (rest_ends _ rest ending r.ends).0 ∙ append-nil ls
 
-  pub end_is : end_from Start 0 bytes ≡ ending
+  end_is : end_from Start 0 bytes ≡ ending
   end_is =
       let place : 0 + length (flat_map text ls) ≡ length bytes - length rest = omega (arith, sym (length-append (flat_map text ls) rest) ∙ ap length r.spelled.whole) in
       ap (end_from Start 0) (sym r.spelled.whole) ∙ spelled_end ls rest 0 r.lawful

@@ -30,8 +30,8 @@ pub trait Feed {
 
     ghost ending: { Self → Ending };
 
-    // LAYER, as clauses name it. A constant of a type that borrows can have no clause yet, so the two
-    // have different names, and code over any feed asks own_layer.
+    // LAYER, as clauses name it. It has a name of its own, since a constant of a type that borrows
+    // can carry no clause yet; own_layer is the number that code over any feed may rely on.
     ghost level: { ℕ };
 
     // What each feed owes: a length for each line, a lawful layer, and lawful faults.
@@ -49,7 +49,7 @@ pub trait Feed {
     fn place(&self) -> u64
         ensures { result ≡ passed self.now };
 
-    // LAYER, for code over any feed that has to know more of it than its type.
+    // LAYER, for code over any feed.
     fn own_layer() -> u8
         ensures { result ≡ level };
 }
