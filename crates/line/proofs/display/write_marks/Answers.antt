@@ -1,6 +1,7 @@
-use Rattle.std.proofs.Common.{arith}
+use Rattle.std.proofs.Common.{◌≡◌, ℕ, sym, ap, ◌∙◌, arith}
 use Rattle.std.proofs.lemmas.Grind.{common_steps}
 use Rattle.std.proofs.lemmas.Str.Ascii.{encode_ascii}
+use Rattle.std.proofs.Output.{has_written_of_eq}
 use Rattle.line.specs.Spelling.{letters_below}
 use Rattle.line.proofs.Letters.{letters_set, letters_unset, hyphen_alone, no_hyphen}
 use Rattle.line.proofs.display.write_marks.Goals as goal
@@ -16,4 +17,7 @@ pub loop-i-preserved : goal.loop-i-preserved
 loop-i-preserved g c = grind (arith, common_steps, letters_set, letters_unset, encode_ascii)
 
 pub returns : goal.returns
-returns g c = grind (arith, common_steps, no_hyphen)
+returns g c =
+    λ p _.
+    let all : c.loop-i.i ≡ 26 = omega arith in
+    has_written_of_eq _ _ _ _ _ (ap (λ (n : ℕ). letters_below n c.args.marks) all ∙ sym (no_hyphen c.args.marks c.if-marks-eq0.false)) (c.loop-i.invariant p)
