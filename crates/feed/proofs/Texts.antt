@@ -59,32 +59,24 @@ pub record Found (start : ℕ) (bytes : List ℕ) (lines : List Line) (ending : 
   pub place : from + length rest ≡ start + length bytes
   pub ends : TextEnds from rest ending
 
+-- bytes that hold no line are the rest
+no_lines : (start : ℕ) (bytes : List ℕ) (ending : Ending) → TextEnds start bytes ending → Found start bytes [] ending
+no_lines start bytes ending ends = record { rest = bytes; from = start; lawful = tt; whole = refl; place = refl; ends = ends }
+
 short : (s : State) (start p : ℕ) → Sound s → p ≡ start + length (said s) → 0 < length (said s) → Found start (said s) [] (Faulty (fault 4 Cut p))
-short s start p h e some = record {
-  rest = said s;
-  from = start;
-  lawful = tt;
-  whole = refl;
-  place = refl;
-  ends = inr (record { some = some; good = goes_on s h; told = ap (fault 4 Cut) e });
-}
+short s start p h e some = no_lines start (said s) _ (inr (record { some = some; good = goes_on s h; told = ap (fault 4 Cut) e }))
 
 stopped : (s : State) (start p : ℕ) → Sound s → p ≡ start + length (said s) → Found start (said s) [] (stop s p)
-stopped Start start p h e = record { rest = []; from = start; lawful = tt; whole = refl; place = refl; ends = refl }
+stopped Start start p h e = no_lines start [] Clean refl
 stopped (Time t) start p h e = short (Time t) start p h e (decimal_nonempty t (omega arith))
 stopped (Space t) start p h e = short (Space t) start p h e (said_some t _ h)
 stopped (Marks t m) start p h e = short (Marks t m) start p h e (said_some t _ h.0)
 stopped (Hyphen t) start p h e = short (Hyphen t) start p h e (said_some t _ h)
 
 wrong : (s : State) (start p b : ℕ) (bs : List ℕ) → Sound s → p ≡ start + length (said s) → step s b ≡ NoStep → Found start (said s ++ b ∷ bs) [] (Faulty (fault 4 (cause s) p))
-wrong s start p b bs h e none = record {
-  rest = said s ++ b ∷ bs;
-  from = start;
-  lawful = tt;
-  whole = refl;
-  place = refl;
-  ends = inl (record { before = said s; byte = b; after = bs; split = refl; good = goes_on s h; bad = none_begins s b h none; told = λ i. fault 4 (cause_told s h i) (e i) });
-}
+wrong s start p b bs h e none =
+    no_lines start (said s ++ b ∷ bs) _
+    (inl (record { before = said s; byte = b; after = bs; split = refl; good = goes_on s h; bad = none_begins s b h none; told = λ i. fault 4 (cause_told s h i) (e i) }))
 
 line_more : (l : Line) (start next : ℕ) (bs : List ℕ) (ls : List Line) (ending : Ending) → Lawful l → next ≡ start + length (text l) → Found next bs ls ending → Found start (text l ++ bs) (l ∷ ls) ending
 line_more l start next bs ls ending h e f = record {

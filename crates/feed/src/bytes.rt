@@ -1,4 +1,4 @@
-// Feeds of the lines that a slice of bytes holds in a format.
+// The feed over a slice of bytes, in any format.
 ghost use Rattle.std.specs.Prelude.{◌≤◌, length};
 
 use crate::format::Format;

@@ -1,4 +1,4 @@
-// The formats that a feed reads.
+// What a feed has to know of the format of its bytes.
 ghost use Rattle.std.specs.Prelude.{◌≡◌, ℕ, ◌≤◌, List, length};
 ghost use Rattle.line.specs.declared.Line.{Line};
 ghost use Rattle.feed.specs.declared.answers.Ending.{Ending};

@@ -11,7 +11,7 @@ use crate::format::{Format, fault};
 use crate::{Cause, Ending, Next};
 use line::Line;
 
-// Eight bytes a line: its time and its marks, four bytes each, the higher byte first.
+// The packed format: a line is its time and its marks, four bytes each, the higher byte first.
 pub struct Packed;
 
 // The lines that a packed log spells, from the cursor on. It borrows the log.

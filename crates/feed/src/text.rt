@@ -15,7 +15,7 @@ use crate::format::{Format, fault};
 use crate::{Cause, Ending, Next};
 use machine::{State, Step};
 
-// A text a line: its time in decimal, a space, its marks and a line feed.
+// The text format: a line is its time in decimal, a space, its marks and a line feed.
 pub struct Text;
 
 // The lines that a text log spells, from the cursor on. It borrows the log.
