@@ -31,10 +31,9 @@ impl<'a, F> ByteFeed<'a, F> {
 }
 
 impl<'a, F: Format> Feed for ByteFeed<'a, F> {
-    ghost use Rattle.std.specs.Prelude.{◌≡◌};
     ghost use Rattle.feed.specs.Bytes as over;
 
-    const LAYER: u8 = F::LAYER;
+    type Kind = F;
 
     ghost passed = { over.passed };
 
@@ -44,9 +43,7 @@ impl<'a, F: Format> Feed for ByteFeed<'a, F> {
 
     ghost ending = { over.ending F.ending };
 
-    ghost level = { F.LAYER };
-
-    ghost laws = { over.laws F.lines F.long F.ending F.layer F.faults };
+    ghost laws = { over.laws F.lines F.long F.ending F.lawful F.faults };
 
     fn next(&mut self) -> Next {
         let (answer, at) = F::read_at(self.bytes, self.at);
@@ -56,11 +53,5 @@ impl<'a, F: Format> Feed for ByteFeed<'a, F> {
 
     fn place(&self) -> u64 {
         self.at as u64
-    }
-
-    fn own_layer() -> u8
-        ensures { result ≡ F.LAYER }
-    {
-        F::LAYER
     }
 }

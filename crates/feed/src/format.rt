@@ -3,28 +3,21 @@ ghost use Rattle.std.specs.Prelude.{◌≡◌, ℕ, ◌≤◌, List, length};
 ghost use Rattle.line.specs.declared.Line.{Line};
 ghost use Rattle.feed.specs.declared.answers.Ending.{Ending};
 ghost use Rattle.feed.specs.Codes as codes;
-ghost use Rattle.feed.specs.Meaning.{At, FeedEnding, FeedLayer};
+ghost use Rattle.feed.specs.Meaning.{At, FeedEnding};
 
-use crate::{Cause, Ending, Next};
+use crate::{Cause, Ending, Kind, Next};
 use line::Fault;
 
 // A format means, of bytes and a place in them, the lines from there on and an ending, and of a
 // line, how many bytes it takes.
-pub trait Format {
-    // The layer that a fault of this format carries.
-    const LAYER: u8;
-
-    ghost LAYER: { ℕ };
-
+pub trait Format: Kind {
     ghost lines: { List ℕ → ℕ → List Line };
 
     ghost long: { Line → ℕ };
 
     ghost ending: { List ℕ → ℕ → Ending };
 
-    // What each format owes: a lawful layer, and lawful faults.
-    ghost layer: { FeedLayer LAYER };
-
+    // What each format owes: lawful faults.
     ghost faults: { (bytes : List ℕ) (at : ℕ) → FeedEnding (ending bytes at) };
 
     // What stands at a place of the bytes, and the place behind it: that of the next line, or the

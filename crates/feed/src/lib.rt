@@ -4,7 +4,7 @@
 ghost use Rattle.std.specs.Prelude.{◌≡◌, ℕ, ◌+◌, List, drop, slice_index};
 ghost use Rattle.line.specs.declared.Line.{Line};
 ghost use Rattle.feed.specs.declared.answers.Ending.{Ending};
-ghost use Rattle.feed.specs.Meaning.{answer, Laws};
+ghost use Rattle.feed.specs.Meaning.{answer, FeedLayer, Laws};
 
 pub mod answers;
 mod bytes;
@@ -16,11 +16,21 @@ pub use answers::{Cause, Ending, Next};
 pub use packed::PackedFeed;
 pub use text::TextFeed;
 
+// A kind of feed. It stands beside the feed, whose type borrows, since the constant of a type that
+// borrows can carry no clause yet.
+pub trait Kind {
+    // The layer that a fault of this kind of feed carries: 3 or above, and never 5.
+    const LAYER: u8;
+
+    ghost LAYER: { ℕ };
+
+    ghost lawful: { FeedLayer LAYER };
+}
+
 // A feed means the bytes that it has passed, the lines to come with the length of each in bytes,
 // and an ending.
 pub trait Feed {
-    // The layer that a fault of this kind of feed carries: 3 or above, and never 5.
-    const LAYER: u8;
+    type Kind: Kind;
 
     ghost passed: { Self → ℕ };
 
@@ -29,13 +39,6 @@ pub trait Feed {
     ghost lengths: { Self → List ℕ };
 
     ghost ending: { Self → Ending };
-
-    // LAYER, as clauses name it. It has a name of its own, since a constant of a type that borrows
-    // can carry no clause yet; own_layer is the number that code over any feed may rely on.
-    ghost level: { ℕ };
-
-    // What each feed owes: a length for each line, a lawful layer, and lawful faults.
-    ghost laws: { Laws level lines lengths ending };
 
     // The first line to come, which is passed; where there is none, the ending, and nothing changes.
     fn next(&mut self) -> Next
@@ -49,7 +52,6 @@ pub trait Feed {
     fn place(&self) -> u64
         ensures { result ≡ passed self.now };
 
-    // LAYER, for code over any feed.
-    fn own_layer() -> u8
-        ensures { result ≡ level };
+    // What each feed owes: a length for each line, a lawful layer, and lawful faults.
+    ghost laws: { Laws Self.Kind.LAYER lines lengths ending };
 }

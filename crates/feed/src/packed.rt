@@ -8,7 +8,7 @@ ghost use Rattle.feed.specs.Spelled.{OneReading, PackedReads, Words};
 
 use crate::bytes::ByteFeed;
 use crate::format::{Format, fault};
-use crate::{Cause, Ending, Next};
+use crate::{Cause, Ending, Kind, Next};
 use line::Line;
 
 // The packed format: a line is its time and its marks, four bytes each, the higher byte first.
@@ -42,18 +42,20 @@ fn first_line(bytes: &[u8]) -> Option<Line>
     })
 }
 
-impl Format for Packed {
+impl Kind for Packed {
     const LAYER: u8 = 3;
 
     ghost LAYER = { 3 };
 
+    ghost lawful = { packed.layer };
+}
+
+impl Format for Packed {
     ghost lines = { packed.lines_at };
 
     ghost long = { packed.long };
 
     ghost ending = { packed.end_at };
-
-    ghost layer = { packed.layer };
 
     ghost faults = { packed.faults };
 

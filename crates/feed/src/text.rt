@@ -12,7 +12,7 @@ mod machine;
 
 use crate::bytes::ByteFeed;
 use crate::format::{Format, fault};
-use crate::{Cause, Ending, Next};
+use crate::{Cause, Ending, Kind, Next};
 use machine::{State, Step};
 
 // The text format: a line is its time in decimal, a space, its marks and a line feed.
@@ -34,18 +34,20 @@ impl<'a> TextFeed<'a> {
     }
 }
 
-impl Format for Text {
+impl Kind for Text {
     const LAYER: u8 = 4;
 
     ghost LAYER = { 4 };
 
+    ghost lawful = { text_laws.layer };
+}
+
+impl Format for Text {
     ghost lines = { text.lines_at };
 
     ghost long = { text.long };
 
     ghost ending = { text.end_at };
-
-    ghost layer = { text_laws.layer };
 
     ghost faults = { text_laws.faults };
 
