@@ -27,7 +27,7 @@ fn write_marks<W: fmt::Write>(marks: u32, f: &mut fmt::Formatter<W>) -> fmt::Res
     }
     for i in 0..26u8 {
         if (marks >> i) % 2 == 1 {
-            f.write_char((b'a' + i) as char)?;
+            f.write_char(char::from(b'a' + i))?;
         }
     }
     Ok(())
