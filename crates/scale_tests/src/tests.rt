@@ -19,7 +19,7 @@ fn refused<T: Drop>(
         Ok(_) => Err(Fail::new("not refused")),
         Err(told) => {
             assert_eq!(rt; told, why);
-            assert_eq!(rt; told.code(), code);
+            assert_eq!(rt; u8::from(told), code);
             Ok(())
         }
     }
