@@ -4,9 +4,18 @@ mod pairs;
 mod plain_scale;
 mod wheels;
 
-use scale::Refusal;
+use scale::{Refusal, WheelNumbers};
 use std::process::Abort;
 use std::test::Fail;
+
+// The numbers of a wheel.
+fn numbers(bound: u32, period: u32, pattern: u64) -> WheelNumbers {
+    WheelNumbers {
+        bound,
+        period,
+        pattern,
+    }
+}
 
 // Something was refused, for this reason and by this number.
 fn refused<T: Drop>(

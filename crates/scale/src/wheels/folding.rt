@@ -4,16 +4,20 @@ ghost use Rattle.std.specs.Result.{result_err};
 ghost use Rattle.scale.specs.Meaning.{Joins, Judges};
 ghost use Rattle.scale.specs.WheelOf as of;
 ghost use Rattle.scale.specs.WheelOf.{Given};
-ghost use Rattle.scale.specs.Wheels as wheel;
 
-use super::Wheel;
+use super::{Wheel, WheelNumbers};
 use crate::Refusal;
 
 impl Wheel {
-    pub fn new(bound: u32, period: u32, pattern: u64) -> Result<Wheel, Refusal>
-        ensures refused { result_err result ≡ wheel.refusal bound period pattern }
-        ensures made { IfOk result (Given bound period pattern) }
+    pub fn new(numbers: WheelNumbers) -> Result<Wheel, Refusal>
+        ensures refused { result_err result ≡ of.offer_refusal numbers }
+        ensures made { IfOk result (Given numbers) }
     {
+        let WheelNumbers {
+            bound,
+            period,
+            pattern,
+        } = numbers;
         let size = u64::from(bound) + u64::from(period);
         if period == 0 || size > 64 {
             return Err(Refusal::Wheel);
@@ -30,7 +34,7 @@ impl Wheel {
 
     // The wheel that a new set has at each scale: it has one class, and says no.
     pub fn fresh() -> Wheel
-        ensures { Given 0 1 0 result }
+        ensures { Given (record { bound = 0; period = 1; pattern = 0 }) result }
     {
         Wheel {
             bound: 0,

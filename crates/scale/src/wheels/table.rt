@@ -1,18 +1,18 @@
 // The wheel set.
 ghost use Rattle.std.specs.Prelude.{◌≡◌, ℕ};
 ghost use Rattle.std.specs.Result.{result_err};
-ghost use Rattle.scale.specs.Wheels as wheel;
 ghost use Rattle.scale.specs.WheelTable as table;
 ghost use Rattle.scale.specs.Setting as setting;
+ghost use Rattle.scale.specs.WheelOf as of;
 ghost use Rattle.scale.specs.WheelOf.{Given};
 
-use super::{Wheel, WheelSet};
+use super::{Wheel, WheelNumbers, WheelSet};
 use crate::{Refusal, ScaleSet};
 
 impl WheelSet {
     // Every wheel is fresh.
     pub fn new() -> WheelSet
-        ensures { (i : ℕ) → Given 0 1 0 (table.wheel result i) }
+        ensures { (i : ℕ) → Given (record { bound = 0; period = 1; pattern = 0 }) (table.wheel result i) }
     {
         WheelSet {
             wheels: [Wheel::fresh(); 8],
@@ -27,15 +27,15 @@ impl WheelSet {
     }
 
     // Sets the wheel of one scale. A refusal changes nothing.
-    pub fn set(&mut self, scale: u8, bound: u32, period: u32, pattern: u64) -> Result<(), Refusal>
-        ensures refused { result_err result ≡ setting.refusal scale (wheel.refusal bound period pattern) }
-        ensures after { setting.Changed (setting.refusal scale (wheel.refusal bound period pattern)) (Given bound period pattern) scale self.old.wheels self.new.wheels }
-        ensures says { setting.Says (setting.refusal scale (wheel.refusal bound period pattern)) scale (wheel.says bound period pattern) (table.meaning self.old) (table.meaning self.new) }
+    pub fn set(&mut self, scale: u8, numbers: WheelNumbers) -> Result<(), Refusal>
+        ensures refused { result_err result ≡ setting.refusal scale (of.offer_refusal numbers) }
+        ensures after { setting.Changed (setting.refusal scale (of.offer_refusal numbers)) (Given numbers) scale self.old.wheels self.new.wheels }
+        ensures says { setting.Says (setting.refusal scale (of.offer_refusal numbers)) scale (of.offer_says numbers) (table.meaning self.old) (table.meaning self.new) }
     {
         if scale > 7 {
             return Err(Refusal::Scale);
         }
-        self.wheels[usize::from(scale)] = Wheel::new(bound, period, pattern)?;
+        self.wheels[usize::from(scale)] = Wheel::new(numbers)?;
         Ok(())
     }
 }
