@@ -1,23 +1,31 @@
--- The numbers of a wheel, offered and made, and what they mean. Assumes nothing.
-use Rattle.std.specs.Prelude.{◌≡◌, ℕ, Bool, Option}
+-- The numbers of a wheel, and what they mean. Assumes nothing.
+use Rattle.std.specs.Prelude.{◌≡◌, ℕ, ◌-◌, ◌<◌, Bool, Option, nat_lt}
+use Rattle.std.proofs.Common.{mod-lt, arith}
+use Rattle.std.proofs.lemmas.Bool.{cond_both, ltb-true}
 use Rattle.scale.specs.declared.answers.Refusal.{Refusal}
 use Rattle.scale.specs.declared.wheels.Wheel.{Wheel}
 use Rattle.scale.specs.declared.wheels.WheelNumbers.{WheelNumbers}
+use Rattle.scale.specs.Scales.{Laws}
+use Rattle.scale.specs.Turning.{folded_sum}
 use Rattle.scale.specs.Wheels as wheel
-
--- the wheel has these numbers
-pub record Given (offered : WheelNumbers) (w : Wheel) : Type 0 where
-  pub bound_is : w.bound ≡ offered.bound
-  pub period_is : w.period ≡ offered.period
-  pub pattern_is : w.pattern ≡ offered.pattern
 
 -- why these numbers are no wheel
 abbrev pub offer_refusal : WheelNumbers → Option Refusal
-offer_refusal offered = wheel.refusal offered.bound offered.period offered.pattern
+offer_refusal numbers = wheel.refusal numbers.bound numbers.period numbers.pattern
 
 -- what a wheel of these numbers says
-abbrev pub offer_says : WheelNumbers → ℕ → Bool
-offer_says offered n = wheel.says offered.bound offered.period offered.pattern n
+abbrev pub meant : WheelNumbers → ℕ → Bool
+meant numbers n = wheel.says numbers.bound numbers.period numbers.pattern n
+
+-- the wheel has these numbers
+pub record Given (numbers : WheelNumbers) (w : Wheel) : Type 0 where
+  pub bound_is : w.bound ≡ numbers.bound
+  pub period_is : w.period ≡ numbers.period
+  pub pattern_is : w.pattern ≡ numbers.pattern
+
+-- one class, and no to every count
+abbrev pub fresh : Wheel
+fresh = record { bound = 0; period = 1; pattern = 0; turns = omega arith; few = omega arith; inside = omega arith }
 
 abbrev pub says : Wheel → ℕ → Bool
 says w n = wheel.says w.bound w.period w.pattern n
@@ -28,8 +36,20 @@ folded w n = wheel.folded w.bound w.period n
 abbrev pub size : Wheel → ℕ
 size w = wheel.size w.bound w.period
 
-abbrev pub joined : Wheel → ℕ → ℕ → ℕ
-joined w a b = wheel.joined w.bound w.period a b
-
 abbrev pub refusal : Wheel → Option Refusal
 refusal w = wheel.refusal w.bound w.period w.pattern
+
+-- a class is below the size
+pub folded_below : (w : Wheel) (n : ℕ) → folded w n < size w
+folded_below w n =
+    cond_both (nat_lt n w.bound) _ _ (λ (c : ℕ). c < size w)
+    (λ e. omega (arith, ltb-true n w.bound e, w.turns))
+    (λ e. omega (arith, mod-lt (n - w.bound) w.turns))
+
+pub laws : Laws Given meant says folded size
+laws = record {
+  below = folded_below;
+  most = λ w. omega (arith, w.few);
+  sum = λ w m n. folded_sum w.bound w.period m n;
+  as_meant = λ numbers w given n i. wheel.says (given.bound_is i) (given.period_is i) (given.pattern_is i) n;
+}

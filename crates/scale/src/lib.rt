@@ -8,12 +8,16 @@ pub mod answers;
 mod limits;
 mod pairs;
 mod plain_scale;
+mod scales;
+mod tables;
 mod wheels;
 
 pub use answers::Refusal;
 pub use limits::{Limit, LimitSet};
 pub use pairs::Paired;
 pub use plain_scale::Plain;
+pub use scales::Scale;
+pub use tables::Table;
 pub use wheels::{Wheel, WheelNumbers, WheelSet};
 
 // A scale set has the scales 0 to 7; in a question a higher number is read as 7. Each scale says

@@ -5,7 +5,7 @@ ghost use Rattle.scale.specs.Limits as limit;
 ghost use Rattle.scale.specs.Plain as plain;
 ghost use Rattle.scale.specs.WheelOf as wheel;
 
-use crate::{Limit, Refusal, Wheel, WheelNumbers};
+use crate::{Limit, Refusal, Scale, Wheel, WheelNumbers};
 
 #[derive(Clone, Copy)]
 enum Kind {
@@ -31,7 +31,7 @@ impl Plain {
 
     pub fn wheel(numbers: WheelNumbers) -> Result<Plain, Refusal>
         ensures refused { result_err result ≡ wheel.offer_refusal numbers }
-        ensures made { IfOk result (λ p. (n : ℕ) → plain.says p n ≡ wheel.offer_says numbers n) }
+        ensures made { IfOk result (λ p. (n : ℕ) → plain.says p n ≡ wheel.meant numbers n) }
     {
         Ok(Plain {
             kind: Kind::Wheel(Wheel::new(numbers)?),

@@ -1,8 +1,9 @@
 // Wheels.
 ghost use Rattle.std.specs.Prelude.{◌+◌, ◌^◌, ◌<◌, ◌≤◌};
 
+use crate::Table;
+
 mod folding;
-mod table;
 
 // The numbers of a wheel as they are offered. They may make no wheel.
 #[derive(Clone, Copy)]
@@ -25,7 +26,4 @@ pub struct Wheel {
 }
 
 // Eight wheels, one for each scale.
-#[derive(Drop)]
-pub struct WheelSet {
-    wheels: [Wheel; 8],
-}
+pub type WheelSet = Table<Wheel>;

@@ -1,6 +1,6 @@
 // Wheels and the wheel set.
 use super::{numbers, refused};
-use scale::{Refusal, ScaleSet, Wheel, WheelSet};
+use scale::{Refusal, Scale, ScaleSet, Wheel, WheelSet};
 use std::test::Fail;
 
 #[test]

@@ -1,7 +1,11 @@
-use Rattle.std.proofs.Common.{◌≡◌, ℕ, ◌+◌, ◌^◌, ◌≤◌, false, ◌||◌, eqb, ltb, sym, ◌∙◌, subst, arith}
-use Rattle.std.proofs.lemmas.Bool.{cond-false, le-ltb, ne_eqb, or_from}
-use Rattle.scale.proofs.Turning.{high_part}
-use Rattle.scale.proofs.wheels.Wheel.new.Goals as goal
+use Rattle.std.proofs.Common.{◌≡◌, ℕ, ◌+◌, ◌/◌, ◌^◌, ◌≤◌, false, ◌||◌, eqb, ltb, sym, ◌∙◌, ⊎_elim, subst, arith}
+use native.Mathlib.Nat.{div-eq_of_lt}
+use Rattle.std.proofs.lemmas.Bool.{cases_lt, cond-false, le-ltb, ne_eqb, or_from}
+use Rattle.scale.proofs.wheels.folding.WheelScale.new.Goals as goal
+
+-- a number with something above its lowest bits reaches past them
+high_part : (p k : ℕ) → (p / 2 ^ k ≡ 0 → ⊥) → 2 ^ k ≤ p
+high_part p k h = ⊎_elim (λ lt. absurd (h (div-eq_of_lt lt))) (λ ge. ge) (cases_lt p (2 ^ k))
 
 pub returns-then-pattern-size-ne0 : goal.returns-then-pattern-size-ne0
 returns-then-pattern-size-ne0 c =

@@ -1,8 +1,8 @@
 use Rattle.std.proofs.Common.{ℕ, ◌/◌, ◌^◌, eqb, ap, ◌∙◌, arith}
 use Rattle.std.proofs.lemmas.Nat.{and_mask}
-use Rattle.scale.specs.WheelTable.{folded_below}
+use Rattle.scale.specs.WheelOf.{folded_below}
 use Rattle.scale.specs.Wheels.{bit}
-use Rattle.scale.proofs.wheels.Wheel.verdict.Goals as goal
+use Rattle.scale.proofs.wheels.folding.WheelScale.verdict.Goals as goal
 
 pub returns-then-class-lt64 : goal.returns-then-class-lt64
 returns-then-class-lt64 c n e =

@@ -1,6 +1,7 @@
 -- Counts on a wheel: a class stands for its count in a sum. Assumes nothing.
-use Rattle.std.proofs.Common.{◌≡◌, ℕ, ◌+◌, ◌-◌, ◌/◌, ◌%◌, ◌^◌, ◌<◌, ◌≤◌, sym, ap, ◌∙◌, ⊎_elim, add_comm, arith}
-use native.Mathlib.Nat.{add-mod-mod, div-eq_of_lt}
+use Rattle.std.specs.Prelude.{◌≡◌, ℕ, ◌+◌, ◌-◌, ◌%◌, ◌<◌, ◌≤◌}
+use Rattle.std.proofs.Common.{sym, ap, ◌∙◌, ⊎_elim, add_comm, arith}
+use native.Mathlib.Nat.{add-mod-mod}
 use Rattle.std.proofs.lemmas.Bool.{cases_lt, cond-true, cond-false, lt-ltb, le-ltb}
 use Rattle.scale.specs.Wheels.{folded}
 
@@ -29,7 +30,3 @@ module _ (bound period : ℕ) where
   folded_sum m n =
       let f = folded bound period in
       folded_right (f m) n ∙ ap f (add_comm (f m) n) ∙ folded_right n m ∙ ap f (add_comm n m)
-
--- a number with something above its lowest bits reaches past them
-pub high_part : (p k : ℕ) → (p / 2 ^ k ≡ 0 → ⊥) → 2 ^ k ≤ p
-high_part p k h = ⊎_elim (λ lt. absurd (h (div-eq_of_lt lt))) (λ ge. ge) (cases_lt p (2 ^ k))
