@@ -8,5 +8,6 @@ pub mod Scales
 pub mod Setting
 pub mod Tables
 pub mod Turning
+pub mod WheelNumbers
 pub mod WheelOf
 pub mod Wheels

@@ -1,4 +1,4 @@
--- The number of a limit, and what it means. Assumes nothing.
+-- What a limit means, and what it owes as a scale. Assumes nothing.
 use Rattle.std.specs.Prelude.{◌≡◌, ℕ, Bool}
 use Rattle.std.proofs.Common.{ap, arith}
 use Rattle.scale.specs.declared.limits.Limit.{Limit}

@@ -1,4 +1,4 @@
--- The numbers of a wheel, and what they mean. Assumes nothing.
+-- What a wheel means, and what it owes as a scale. Assumes nothing.
 use Rattle.std.specs.Prelude.{◌≡◌, ℕ, ◌-◌, ◌<◌, Bool, Option, nat_lt}
 use Rattle.std.proofs.Common.{mod-lt, arith}
 use Rattle.std.proofs.lemmas.Bool.{cond_both, ltb-true}
@@ -7,15 +7,8 @@ use Rattle.scale.specs.declared.wheels.Wheel.{Wheel}
 use Rattle.scale.specs.declared.wheels.WheelNumbers.{WheelNumbers}
 use Rattle.scale.specs.Scales.{Laws}
 use Rattle.scale.specs.Turning.{folded_sum}
+use Rattle.scale.specs.WheelNumbers as offered
 use Rattle.scale.specs.Wheels as wheel
-
--- why these numbers are no wheel
-abbrev pub offer_refusal : WheelNumbers → Option Refusal
-offer_refusal numbers = wheel.refusal numbers.bound numbers.period numbers.pattern
-
--- what a wheel of these numbers says
-abbrev pub meant : WheelNumbers → ℕ → Bool
-meant numbers n = wheel.says numbers.bound numbers.period numbers.pattern n
 
 -- the wheel has these numbers
 pub record Given (numbers : WheelNumbers) (w : Wheel) : Type 0 where
@@ -39,16 +32,15 @@ size w = wheel.size w.bound w.period
 abbrev pub refusal : Wheel → Option Refusal
 refusal w = wheel.refusal w.bound w.period w.pattern
 
--- a class is below the size
-pub folded_below : (w : Wheel) (n : ℕ) → folded w n < size w
-folded_below w n =
+below : (w : Wheel) (n : ℕ) → folded w n < size w
+below w n =
     cond_both (nat_lt n w.bound) _ _ (λ (c : ℕ). c < size w)
     (λ e. omega (arith, ltb-true n w.bound e, w.turns))
     (λ e. omega (arith, mod-lt (n - w.bound) w.turns))
 
-pub laws : Laws Given meant says folded size
+pub laws : Laws Given offered.says says folded size
 laws = record {
-  below = folded_below;
+  below = below;
   most = λ w. omega (arith, w.few);
   sum = λ w m n. folded_sum w.bound w.period m n;
   as_meant = λ numbers w given n i. wheel.says (given.bound_is i) (given.period_is i) (given.pattern_is i) n;

@@ -1,5 +1,5 @@
 // The paired set.
-ghost use Rattle.std.specs.Prelude.{◌≡◌, ◌-◌, min, if◌then◌else◌, nat_lt};
+ghost use Rattle.std.specs.Prelude.{◌≡◌, ◌-◌, ◌<◌, ◌≤◌, min, MatchOption};
 ghost use Rattle.scale.specs.Pairs as pair;
 
 use crate::ScaleSet;
@@ -15,7 +15,7 @@ pub struct Paired<A, B> {
 // The scale of the second set that a scale of the pair is, if it is one. A scale above 7 is read as
 // 7, and so is scale 3 of the second set.
 fn in_second(scale: u8) -> Option<u8>
-    ensures { result ≡ (if nat_lt scale 4 then None else Some (min scale 7 - 4)) }
+    ensures { MatchOption result (scale < 4) (λ own. 4 ≤ scale × own ≡ min scale 7 - 4) }
 {
     scale.min(7).checked_sub(4)
 }
@@ -23,9 +23,9 @@ fn in_second(scale: u8) -> Option<u8>
 // The two sets have two types, so each question chooses between them by a match of its own: a
 // function that chose for all five would take each question twice, as two closures.
 impl<A: ScaleSet, B: ScaleSet> ScaleSet for Paired<A, B> {
-    ghost meaning = { pair.either A.ScaleSet.meaning B.ScaleSet.meaning };
+    ghost meaning = { pair.either_of A.ScaleSet.meaning B.ScaleSet.meaning };
 
-    ghost folding = { pair.either A.ScaleSet.folding B.ScaleSet.folding };
+    ghost folding = { pair.either_of A.ScaleSet.folding B.ScaleSet.folding };
 
     ghost sizes = { pair.either A.ScaleSet.sizes B.ScaleSet.sizes };
 

@@ -3,7 +3,7 @@ ghost use Rattle.std.specs.Prelude.{◌≡◌, ℕ, IfOk, None};
 ghost use Rattle.std.specs.Result.{result_err};
 ghost use Rattle.scale.specs.Limits as limit;
 ghost use Rattle.scale.specs.Plain as plain;
-ghost use Rattle.scale.specs.WheelOf as wheel;
+ghost use Rattle.scale.specs.WheelNumbers as wheel;
 
 use crate::{Limit, Refusal, Scale, Wheel, WheelNumbers};
 
@@ -30,8 +30,8 @@ impl Plain {
     }
 
     pub fn wheel(numbers: WheelNumbers) -> Result<Plain, Refusal>
-        ensures refused { result_err result ≡ wheel.offer_refusal numbers }
-        ensures made { IfOk result (λ p. (n : ℕ) → plain.says p n ≡ wheel.meant numbers n) }
+        ensures refused { result_err result ≡ wheel.refusal numbers }
+        ensures made { IfOk result (λ p. (n : ℕ) → plain.says p n ≡ wheel.says numbers n) }
     {
         Ok(Plain {
             kind: Kind::Wheel(Wheel::new(numbers)?),

@@ -34,10 +34,10 @@ impl Scale for Limit {
     ghost laws = { of.laws };
 
     fn new(k: u32) -> Result<Limit, Refusal> {
-        if k > 1000 {
-            return Err(Refusal::Limit);
+        match u16::try_from(k) {
+            Ok(k) if k <= 1000 => Ok(Limit { k }),
+            _ => Err(Refusal::Limit),
         }
-        Ok(Limit { k: k as u16 })
     }
 
     fn fresh() -> Limit {
@@ -52,7 +52,8 @@ impl Scale for Limit {
         self.number() + 2
     }
 
-    // Counts above the limit share one class.
+    // Counts above the limit k share the class k + 1. A checked conversion of the class would have a
+    // case that never comes.
     fn fold(self, count: u64) -> u16 {
         count.min(u64::from(self.number()) + 1) as u16
     }

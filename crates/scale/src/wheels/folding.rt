@@ -1,5 +1,6 @@
 // What a wheel says, and how it folds counts.
 ghost use Rattle.std.specs.Prelude.{◌≡◌};
+ghost use Rattle.scale.specs.WheelNumbers as offered;
 ghost use Rattle.scale.specs.WheelOf as of;
 
 use super::{Wheel, WheelNumbers};
@@ -28,11 +29,11 @@ impl Wheel {
 impl Scale for Wheel {
     type Numbers = WheelNumbers;
 
-    ghost refusal = { of.offer_refusal };
+    ghost refusal = { offered.refusal };
 
     ghost given = { of.Given };
 
-    ghost meant = { of.meant };
+    ghost meant = { offered.says };
 
     ghost fresh = { of.fresh };
 
@@ -45,12 +46,10 @@ impl Scale for Wheel {
     ghost laws = { of.laws };
 
     fn new(numbers: WheelNumbers) -> Result<Wheel, Refusal> {
-        let WheelNumbers {
-            bound,
-            period,
-            pattern,
-        } = numbers;
-        let size = u64::from(bound) + u64::from(period);
+        let bound = u8::try_from(numbers.bound).or(Err(Refusal::Wheel))?;
+        let period = u8::try_from(numbers.period).or(Err(Refusal::Wheel))?;
+        let pattern = numbers.pattern;
+        let size = u16::from(bound) + u16::from(period);
         if period == 0 || size > 64 {
             return Err(Refusal::Wheel);
         }
@@ -58,8 +57,8 @@ impl Scale for Wheel {
             return Err(Refusal::Pattern);
         }
         Ok(Wheel {
-            bound: bound as u8,
-            period: period as u8,
+            bound,
+            period,
             pattern,
         })
     }
@@ -82,10 +81,12 @@ impl Scale for Wheel {
 
     fn fold(self, count: u64) -> u16 {
         let bound = u64::from(self.bound);
-        if count < bound {
-            return count as u16;
-        }
-        (bound + (count - bound) % u64::from(self.period)) as u16
+        let class = match count.checked_sub(bound) {
+            Some(past) => bound + past % u64::from(self.period),
+            None => count,
+        };
+        // A class is below 64: a checked conversion would have a case that never comes.
+        class as u16
     }
 
     // The pattern's bit of the class.
