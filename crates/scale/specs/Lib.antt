@@ -7,7 +7,6 @@ pub mod Plain
 pub mod Scales
 pub mod Setting
 pub mod Tables
-pub mod Turning
 pub mod WheelNumbers
 pub mod WheelOf
 pub mod Wheels

@@ -1,12 +1,12 @@
 -- What a wheel means, and what it owes as a scale. Assumes nothing.
-use Rattle.std.specs.Prelude.{◌≡◌, ℕ, ◌-◌, ◌<◌, Bool, Option, nat_lt}
+use Rattle.std.specs.Prelude.{◌≡◌, ℕ, ◌+◌, ◌-◌, Bool, Option}
 use Rattle.std.proofs.Common.{mod-lt, arith}
-use Rattle.std.proofs.lemmas.Bool.{cond_both, ltb-true}
+use Rattle.std.proofs.lemmas.Bool.Decides.{nat_tests}
+use native.Mathlib.Nat.{add-mod-mod}
 use Rattle.scale.specs.declared.answers.Refusal.{Refusal}
 use Rattle.scale.specs.declared.wheels.Wheel.{Wheel}
 use Rattle.scale.specs.declared.wheels.WheelNumbers.{WheelNumbers}
 use Rattle.scale.specs.Scales.{Laws}
-use Rattle.scale.specs.Turning.{folded_sum}
 use Rattle.scale.specs.WheelNumbers as offered
 use Rattle.scale.specs.Wheels as wheel
 
@@ -32,16 +32,17 @@ size w = wheel.size w.bound w.period
 abbrev pub refusal : Wheel → Option Refusal
 refusal w = wheel.refusal w.bound w.period w.pattern
 
-below : (w : Wheel) (n : ℕ) → folded w n < size w
-below w n =
-    cond_both (nat_lt n w.bound) _ _ (λ (c : ℕ). c < size w)
-    (λ e. omega (arith, ltb-true n w.bound e, w.turns))
-    (λ e. omega (arith, mod-lt (n - w.bound) w.turns))
+-- a class stands for its count in a sum
+right : (w : Wheel) (x n : ℕ) → folded w (x + folded w n) ≡ folded w (x + n)
+right w x n = grind (arith, nat_tests, add-mod-mod x (n - w.bound) w.period)
+
+sum : (w : Wheel) (m n : ℕ) → folded w (folded w m + folded w n) ≡ folded w (m + n)
+sum w m n = grind (arith, right w (folded w m) n, right w n m)
 
 pub laws : Laws Given offered.says says folded size
 laws = record {
-  below = below;
+  below = λ w n. grind (arith, nat_tests, mod-lt (n - w.bound) w.turns);
   most = λ w. omega (arith, w.few);
-  sum = λ w m n. folded_sum w.bound w.period m n;
+  sum = sum;
   as_meant = λ numbers w given n i. wheel.says (given.bound_is i) (given.period_is i) (given.pattern_is i) n;
 }
