@@ -1,10 +1,12 @@
 pub mod Codes
-pub mod LimitTable
+pub mod LimitOf
 pub mod Limits
 pub mod Meaning
 pub mod Pairs
 pub mod Plain
+pub mod Scales
 pub mod Setting
+pub mod Tables
+pub mod WheelNumbers
 pub mod WheelOf
-pub mod WheelTable
 pub mod Wheels

@@ -14,9 +14,6 @@ folded k n = min n (k + 1)
 abbrev pub size : ℕ → ℕ
 size k = k + 2
 
-abbrev pub joined : ℕ → ℕ → ℕ → ℕ
-joined k a b = folded k (a + b)
-
 -- why a number is no limit
 abbrev pub refusal : ℕ → Option Refusal
 refusal k = cond (nat_le k 1000) None (Some Limit)

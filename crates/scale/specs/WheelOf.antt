@@ -1,14 +1,24 @@
--- The numbers of a wheel, and what they mean. Assumes nothing.
-use Rattle.std.specs.Prelude.{◌≡◌, ℕ, Bool, Option}
+-- What a wheel means, and what it owes as a scale. Assumes nothing.
+use Rattle.std.specs.Prelude.{◌≡◌, ℕ, ◌+◌, ◌-◌, Bool, Option}
+use Rattle.std.proofs.Common.{mod-lt, arith}
+use Rattle.std.proofs.lemmas.Bool.Decides.{nat_tests}
+use native.Mathlib.Nat.{add-mod-mod}
 use Rattle.scale.specs.declared.answers.Refusal.{Refusal}
 use Rattle.scale.specs.declared.wheels.Wheel.{Wheel}
+use Rattle.scale.specs.declared.wheels.WheelNumbers.{WheelNumbers}
+use Rattle.scale.specs.Scales.{Laws}
+use Rattle.scale.specs.WheelNumbers as offered
 use Rattle.scale.specs.Wheels as wheel
 
 -- the wheel has these numbers
-pub record Given (bound period pattern : ℕ) (w : Wheel) : Type 0 where
-  pub bound_is : w.bound ≡ bound
-  pub period_is : w.period ≡ period
-  pub pattern_is : w.pattern ≡ pattern
+pub record Given (numbers : WheelNumbers) (w : Wheel) : Type 0 where
+  pub bound_is : w.bound ≡ numbers.bound
+  pub period_is : w.period ≡ numbers.period
+  pub pattern_is : w.pattern ≡ numbers.pattern
+
+-- one class, and no to every count
+abbrev pub fresh : Wheel
+fresh = record { bound = 0; period = 1; pattern = 0; turns = omega arith; few = omega arith; inside = omega arith }
 
 abbrev pub says : Wheel → ℕ → Bool
 says w n = wheel.says w.bound w.period w.pattern n
@@ -19,8 +29,20 @@ folded w n = wheel.folded w.bound w.period n
 abbrev pub size : Wheel → ℕ
 size w = wheel.size w.bound w.period
 
-abbrev pub joined : Wheel → ℕ → ℕ → ℕ
-joined w a b = wheel.joined w.bound w.period a b
-
 abbrev pub refusal : Wheel → Option Refusal
 refusal w = wheel.refusal w.bound w.period w.pattern
+
+-- a class stands for its count in a sum
+right : (w : Wheel) (x n : ℕ) → folded w (x + folded w n) ≡ folded w (x + n)
+right w x n = grind (arith, nat_tests, add-mod-mod x (n - w.bound) w.period)
+
+sum : (w : Wheel) (m n : ℕ) → folded w (folded w m + folded w n) ≡ folded w (m + n)
+sum w m n = grind (arith, right w (folded w m) n, right w n m)
+
+pub laws : Laws Given offered.says says folded size
+laws = record {
+  below = λ w n. grind (arith, nat_tests, mod-lt (n - w.bound) w.turns);
+  most = λ w. omega (arith, w.few);
+  sum = sum;
+  as_meant = λ numbers w given n i. wheel.says (given.bound_is i) (given.period_is i) (given.pattern_is i) n;
+}

@@ -2,28 +2,23 @@
 ghost use Rattle.std.specs.Prelude.{◌≡◌};
 ghost use Rattle.scale.specs.Codes.{number};
 
+// Each case stands for its service number.
 #[derive(Clone, Copy, PartialEq, Eq, Debug)]
 pub enum Refusal {
     // A setting of a scale above 7.
-    Scale,
+    Scale = 17,
     // A limit above 1,000.
-    Limit,
+    Limit = 31,
     // A wheel without a period, or with more than 64 classes.
-    Wheel,
+    Wheel = 32,
     // A pattern with a bit for a class that the wheel lacks.
-    Pattern,
+    Pattern = 33,
 }
 
-impl Refusal {
-    // The service number.
-    pub fn code(self) -> u8
-        ensures { result ≡ number self }
-    {
-        match self {
-            Refusal::Scale => 17,
-            Refusal::Limit => 31,
-            Refusal::Wheel => 32,
-            Refusal::Pattern => 33,
-        }
+impl From<Refusal> for u8 {
+    ghost from_gives = { λ refusal code. code ≡ number refusal };
+
+    fn from(refusal: Refusal) -> u8 {
+        refusal as u8
     }
 }

@@ -8,13 +8,17 @@ pub mod answers;
 mod limits;
 mod pairs;
 mod plain_scale;
+mod scales;
+mod tables;
 mod wheels;
 
 pub use answers::Refusal;
 pub use limits::{Limit, LimitSet};
 pub use pairs::Paired;
 pub use plain_scale::Plain;
-pub use wheels::{Wheel, WheelSet};
+pub use scales::Scale;
+pub use tables::Table;
+pub use wheels::{Wheel, WheelNumbers, WheelSet};
 
 // A scale set has the scales 0 to 7; in a question a higher number is read as 7. Each scale says
 // yes or no to every count. It folds counts into classes, numbers below the scale's size, such that

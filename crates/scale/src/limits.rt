@@ -1,8 +1,9 @@
 // Limits.
 ghost use Rattle.std.specs.Prelude.{◌≤◌};
 
+use crate::Table;
+
 mod folding;
-mod table;
 
 // A limit k, from 0 to 1,000, says yes to counts above k.
 #[derive(Clone, Copy)]
@@ -12,7 +13,4 @@ pub struct Limit {
 }
 
 // Eight limits, one for each scale.
-#[derive(Drop)]
-pub struct LimitSet {
-    limits: [Limit; 8],
-}
+pub type LimitSet = Table<Limit>;

@@ -3,9 +3,9 @@ ghost use Rattle.std.specs.Prelude.{◌≡◌, ℕ, IfOk, None};
 ghost use Rattle.std.specs.Result.{result_err};
 ghost use Rattle.scale.specs.Limits as limit;
 ghost use Rattle.scale.specs.Plain as plain;
-ghost use Rattle.scale.specs.Wheels as wheel;
+ghost use Rattle.scale.specs.WheelNumbers as wheel;
 
-use crate::{Limit, Refusal, Wheel};
+use crate::{Limit, Refusal, Scale, Wheel, WheelNumbers};
 
 #[derive(Clone, Copy)]
 enum Kind {
@@ -29,12 +29,12 @@ impl Plain {
         })
     }
 
-    pub fn wheel(bound: u32, period: u32, pattern: u64) -> Result<Plain, Refusal>
-        ensures refused { result_err result ≡ wheel.refusal bound period pattern }
-        ensures made { IfOk result (λ p. (n : ℕ) → plain.says p n ≡ wheel.says bound period pattern n) }
+    pub fn wheel(numbers: WheelNumbers) -> Result<Plain, Refusal>
+        ensures refused { result_err result ≡ wheel.refusal numbers }
+        ensures made { IfOk result (λ p. (n : ℕ) → plain.says p n ≡ wheel.says numbers n) }
     {
         Ok(Plain {
-            kind: Kind::Wheel(Wheel::new(bound, period, pattern)?),
+            kind: Kind::Wheel(Wheel::new(numbers)?),
         })
     }
 

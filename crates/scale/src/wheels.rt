@@ -1,8 +1,17 @@
 // Wheels.
 ghost use Rattle.std.specs.Prelude.{◌+◌, ◌^◌, ◌<◌, ◌≤◌};
 
+use crate::Table;
+
 mod folding;
-mod table;
+
+// The numbers of a wheel as they are offered. They may make no wheel.
+#[derive(Clone, Copy)]
+pub struct WheelNumbers {
+    pub bound: u32,
+    pub period: u32,
+    pub pattern: u64,
+}
 
 // Counts below the bound are classes of their own; from the bound on, counts a period apart share a
 // class. Bit c of the pattern is what the wheel says to the counts of class c.
@@ -17,7 +26,4 @@ pub struct Wheel {
 }
 
 // Eight wheels, one for each scale.
-#[derive(Drop)]
-pub struct WheelSet {
-    wheels: [Wheel; 8],
-}
+pub type WheelSet = Table<Wheel>;

@@ -4,9 +4,18 @@ mod pairs;
 mod plain_scale;
 mod wheels;
 
-use scale::Refusal;
+use scale::{Refusal, WheelNumbers};
 use std::process::Abort;
 use std::test::Fail;
+
+// The numbers of a wheel.
+fn numbers(bound: u32, period: u32, pattern: u64) -> WheelNumbers {
+    WheelNumbers {
+        bound,
+        period,
+        pattern,
+    }
+}
 
 // Something was refused, for this reason and by this number.
 fn refused<T: Drop>(
@@ -19,7 +28,7 @@ fn refused<T: Drop>(
         Ok(_) => Err(Fail::new("not refused")),
         Err(told) => {
             assert_eq!(rt; told, why);
-            assert_eq!(rt; told.code(), code);
+            assert_eq!(rt; u8::from(told), code);
             Ok(())
         }
     }

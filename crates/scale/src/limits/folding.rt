@@ -1,69 +1,64 @@
 // What a limit says, and how it folds counts.
-ghost use Rattle.std.specs.Prelude.{◌≡◌, ℕ, ◌+◌, ◌<◌, IfOk};
-ghost use Rattle.std.specs.Result.{result_err};
+ghost use Rattle.std.specs.Prelude.{◌≡◌};
+ghost use Rattle.scale.specs.LimitOf as of;
 ghost use Rattle.scale.specs.Limits as limit;
-ghost use Rattle.scale.specs.Meaning.{Joins, Judges};
 
 use super::Limit;
-use crate::Refusal;
+use crate::{Refusal, Scale};
 
 impl Limit {
-    pub fn new(k: u32) -> Result<Limit, Refusal>
-        ensures refused { result_err result ≡ limit.refusal k }
-        ensures made { IfOk result (λ l. l.k ≡ k) }
-    {
-        if k > 1000 {
-            return Err(Refusal::Limit);
-        }
-        Ok(Limit { k: k as u16 })
-    }
-
-    // The limit that a new set has at each scale.
-    pub fn fresh() -> Limit
-        ensures { result.k ≡ 0 }
-    {
-        Limit { k: 0 }
-    }
-
     pub fn number(self) -> u16
         ensures { result ≡ self.k }
     {
         self.k
     }
+}
 
-    // What the limit says to a count.
-    pub fn says(self, count: u64) -> bool
-        ensures { result ≡ limit.says self.k count }
-    {
+impl Scale for Limit {
+    type Numbers = u32;
+
+    ghost refusal = { limit.refusal };
+
+    ghost given = { of.Given };
+
+    ghost meant = { limit.says };
+
+    ghost fresh = { of.fresh };
+
+    ghost says = { of.says };
+
+    ghost folded = { of.folded };
+
+    ghost size = { of.size };
+
+    ghost laws = { of.laws };
+
+    fn new(k: u32) -> Result<Limit, Refusal> {
+        match u16::try_from(k) {
+            Ok(k) if k <= 1000 => Ok(Limit { k }),
+            _ => Err(Refusal::Limit),
+        }
+    }
+
+    fn fresh() -> Limit {
+        Limit { k: 0 }
+    }
+
+    fn says(self, count: u64) -> bool {
         count > u64::from(self.number())
     }
 
-    pub fn size(self) -> u16
-        ensures { result ≡ limit.size self.k }
-    {
+    fn size(self) -> u16 {
         self.number() + 2
     }
 
-    // The class of a count: counts above the limit share one.
-    pub fn fold(self, count: u64) -> u16
-        ensures { result ≡ limit.folded self.k count }
-    {
+    // Counts above the limit k share the class k + 1. A checked conversion of the class would have a
+    // case that never comes.
+    fn fold(self, count: u64) -> u16 {
         count.min(u64::from(self.number()) + 1) as u16
     }
 
-    // The class of the sum of two counts, from their classes.
-    pub fn join(self, a: u16, b: u16) -> u16
-        ensures bound { result < limit.size self.k }
-        ensures value { a < limit.size self.k → b < limit.size self.k → result ≡ limit.joined self.k a b }
-        ensures sum { Joins (limit.folded self.k) a b result }
-    {
-        self.fold(u64::from(a) + u64::from(b))
-    }
-
-    // What the limit says to a count, from its class.
-    pub fn verdict(self, class: u16) -> bool
-        ensures { Judges (limit.folded self.k) (limit.says self.k) class result }
-    {
+    fn verdict(self, class: u16) -> bool {
         self.says(u64::from(class))
     }
 }

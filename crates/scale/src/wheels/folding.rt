@@ -1,44 +1,12 @@
 // What a wheel says, and how it folds counts.
-ghost use Rattle.std.specs.Prelude.{◌≡◌, ℕ, ◌+◌, ◌<◌, IfOk};
-ghost use Rattle.std.specs.Result.{result_err};
-ghost use Rattle.scale.specs.Meaning.{Joins, Judges};
+ghost use Rattle.std.specs.Prelude.{◌≡◌};
+ghost use Rattle.scale.specs.WheelNumbers as offered;
 ghost use Rattle.scale.specs.WheelOf as of;
-ghost use Rattle.scale.specs.WheelOf.{Given};
-ghost use Rattle.scale.specs.Wheels as wheel;
 
-use super::Wheel;
-use crate::Refusal;
+use super::{Wheel, WheelNumbers};
+use crate::{Refusal, Scale};
 
 impl Wheel {
-    pub fn new(bound: u32, period: u32, pattern: u64) -> Result<Wheel, Refusal>
-        ensures refused { result_err result ≡ wheel.refusal bound period pattern }
-        ensures made { IfOk result (Given bound period pattern) }
-    {
-        let size = u64::from(bound) + u64::from(period);
-        if period == 0 || size > 64 {
-            return Err(Refusal::Wheel);
-        }
-        if size < 64 && pattern >> size != 0 {
-            return Err(Refusal::Pattern);
-        }
-        Ok(Wheel {
-            bound: bound as u8,
-            period: period as u8,
-            pattern,
-        })
-    }
-
-    // The wheel that a new set has at each scale: it has one class, and says no.
-    pub fn fresh() -> Wheel
-        ensures { Given 0 1 0 result }
-    {
-        Wheel {
-            bound: 0,
-            period: 1,
-            pattern: 0,
-        }
-    }
-
     pub fn bound(self) -> u8
         ensures { result ≡ self.bound }
     {
@@ -56,45 +24,73 @@ impl Wheel {
     {
         self.pattern
     }
+}
 
-    // What the wheel says to a count.
-    pub fn says(self, count: u64) -> bool
-        ensures { result ≡ of.says self count }
-    {
+impl Scale for Wheel {
+    type Numbers = WheelNumbers;
+
+    ghost refusal = { offered.refusal };
+
+    ghost given = { of.Given };
+
+    ghost meant = { offered.says };
+
+    ghost fresh = { of.fresh };
+
+    ghost says = { of.says };
+
+    ghost folded = { of.folded };
+
+    ghost size = { of.size };
+
+    ghost laws = { of.laws };
+
+    fn new(numbers: WheelNumbers) -> Result<Wheel, Refusal> {
+        let bound = u8::try_from(numbers.bound).or(Err(Refusal::Wheel))?;
+        let period = u8::try_from(numbers.period).or(Err(Refusal::Wheel))?;
+        let pattern = numbers.pattern;
+        let size = u16::from(bound) + u16::from(period);
+        if period == 0 || size > 64 {
+            return Err(Refusal::Wheel);
+        }
+        if size < 64 && pattern >> size != 0 {
+            return Err(Refusal::Pattern);
+        }
+        Ok(Wheel {
+            bound,
+            period,
+            pattern,
+        })
+    }
+
+    fn fresh() -> Wheel {
+        Wheel {
+            bound: 0,
+            period: 1,
+            pattern: 0,
+        }
+    }
+
+    fn says(self, count: u64) -> bool {
         self.verdict(self.fold(count))
     }
 
-    pub fn size(self) -> u16
-        ensures { result ≡ of.size self }
-    {
+    fn size(self) -> u16 {
         u16::from(self.bound) + u16::from(self.period)
     }
 
-    // The class of a count.
-    pub fn fold(self, count: u64) -> u16
-        ensures { result ≡ of.folded self count }
-    {
+    fn fold(self, count: u64) -> u16 {
         let bound = u64::from(self.bound);
-        if count < bound {
-            return count as u16;
-        }
-        (bound + (count - bound) % u64::from(self.period)) as u16
+        let class = match count.checked_sub(bound) {
+            Some(past) => bound + past % u64::from(self.period),
+            None => count,
+        };
+        // A class is below 64: a checked conversion would have a case that never comes.
+        class as u16
     }
 
-    // The class of the sum of two counts, from their classes.
-    #[tactic(auto, using(crate::proofs::Turning::folded_sum, crate::specs::WheelTable::folded_below))]
-    pub fn join(self, a: u16, b: u16) -> u16
-        ensures bound { result < of.size self }
-        ensures value { a < of.size self → b < of.size self → result ≡ of.joined self a b }
-        ensures sum { Joins (of.folded self) a b result }
-    {
-        self.fold(u64::from(a) + u64::from(b))
-    }
-
-    // What the wheel says to a count, from its class: the pattern's bit of the class.
-    pub fn verdict(self, class: u16) -> bool
-        ensures { Judges (of.folded self) (of.says self) class result }
-    {
+    // The pattern's bit of the class.
+    fn verdict(self, class: u16) -> bool {
         class < 64 && (self.pattern >> class) & 1 == 1
     }
 }

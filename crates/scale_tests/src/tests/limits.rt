@@ -1,6 +1,6 @@
 // Limits and the limit set.
 use super::refused;
-use scale::{Limit, LimitSet, Refusal, ScaleSet};
+use scale::{Limit, LimitSet, Refusal, Scale, ScaleSet};
 use std::test::Fail;
 
 #[test]

@@ -1,4 +1,5 @@
 // The paired set.
+use super::numbers;
 use scale::{LimitSet, Paired, ScaleSet, WheelSet};
 use std::test::Fail;
 
@@ -9,9 +10,9 @@ fn halves(rt: HostRuntime) -> Result<(), Fail> {
     first.set(0, 10)?;
     first.set(3, 13)?;
     first.set(4, 14)?;
-    second.set(0, 2, 3, 0b1_0000)?;
-    second.set(3, 20, 30, 0)?;
-    second.set(7, 21, 30, 0)?;
+    second.set(0, numbers(2, 3, 0b1_0000))?;
+    second.set(3, numbers(20, 30, 0))?;
+    second.set(7, numbers(21, 30, 0))?;
     let set = Paired { first, second };
     assert_eq!(rt; set.size(0), 12);
     assert_eq!(rt; set.size(3), 15);
@@ -28,7 +29,7 @@ fn questions(rt: HostRuntime) -> Result<(), Fail> {
         first: LimitSet::new(),
         second: WheelSet::new(),
     };
-    set.second.set(0, 2, 3, 0b1_0000)?;
+    set.second.set(0, numbers(2, 3, 0b1_0000))?;
     assert_eq!(rt; set.zero(4), 0);
     assert_eq!(rt; set.one(4), 1);
     assert_eq!(rt; set.one(5), 0);

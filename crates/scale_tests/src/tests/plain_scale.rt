@@ -1,5 +1,5 @@
 // The plain scale.
-use super::refused;
+use super::{numbers, refused};
 use scale::{Plain, Refusal};
 use std::test::Fail;
 
@@ -14,11 +14,11 @@ fn limit(rt: HostRuntime) -> Result<(), Fail> {
 
 #[test]
 fn wheel(rt: HostRuntime) -> Result<(), Fail> {
-    let odd = Plain::wheel(0, 2, 0b10)?;
+    let odd = Plain::wheel(numbers(0, 2, 0b10))?;
     assert!(rt; odd.says(1));
     assert!(rt; !odd.says(2));
     assert!(rt; odd.says(1_000_001));
-    refused(&rt, Plain::wheel(0, 0, 0), Refusal::Wheel, 32)?;
-    refused(&rt, Plain::wheel(1, 64, 0), Refusal::Wheel, 32)?;
-    refused(&rt, Plain::wheel(0, 2, 4), Refusal::Pattern, 33)
+    refused(&rt, Plain::wheel(numbers(0, 0, 0)), Refusal::Wheel, 32)?;
+    refused(&rt, Plain::wheel(numbers(1, 64, 0)), Refusal::Wheel, 32)?;
+    refused(&rt, Plain::wheel(numbers(0, 2, 4)), Refusal::Pattern, 33)
 }

@@ -1,32 +1,47 @@
 // Wheels and the wheel set.
-use super::refused;
-use scale::{Refusal, ScaleSet, Wheel, WheelSet};
+use super::{numbers, refused};
+use scale::{Refusal, Scale, ScaleSet, Wheel, WheelSet};
 use std::test::Fail;
 
 #[test]
 fn sizes(rt: HostRuntime) -> Result<(), Fail> {
-    assert_eq!(rt; Wheel::new(0, 64, u64::MAX)?.size(), 64);
-    assert_eq!(rt; Wheel::new(63, 1, u64::MAX)?.size(), 64);
-    refused(&rt, Wheel::new(64, 1, 0), Refusal::Wheel, 32)?;
-    refused(&rt, Wheel::new(1, 64, 0), Refusal::Wheel, 32)?;
-    refused(&rt, Wheel::new(0, 0, 0), Refusal::Wheel, 32)?;
+    assert_eq!(rt; Wheel::new(numbers(0, 64, u64::MAX))?.size(), 64);
+    assert_eq!(rt; Wheel::new(numbers(63, 1, u64::MAX))?.size(), 64);
+    refused(&rt, Wheel::new(numbers(64, 1, 0)), Refusal::Wheel, 32)?;
+    refused(&rt, Wheel::new(numbers(1, 64, 0)), Refusal::Wheel, 32)?;
+    refused(&rt, Wheel::new(numbers(0, 0, 0)), Refusal::Wheel, 32)?;
     // Both numbers are as large as they get, and their sum is not cut off.
-    refused(&rt, Wheel::new(u32::MAX, u32::MAX, 0), Refusal::Wheel, 32)?;
-    refused(&rt, Wheel::new(256, 1, 0), Refusal::Wheel, 32)
+    refused(
+        &rt,
+        Wheel::new(numbers(u32::MAX, u32::MAX, 0)),
+        Refusal::Wheel,
+        32,
+    )?;
+    refused(&rt, Wheel::new(numbers(256, 1, 0)), Refusal::Wheel, 32)
 }
 
 #[test]
 fn patterns(rt: HostRuntime) -> Result<(), Fail> {
-    assert_eq!(rt; Wheel::new(2, 3, 0b1_1111)?.pattern(), 31);
-    refused(&rt, Wheel::new(2, 3, 0b10_0000), Refusal::Pattern, 33)?;
-    refused(&rt, Wheel::new(62, 1, 1 << 63), Refusal::Pattern, 33)?;
+    assert_eq!(rt; Wheel::new(numbers(2, 3, 0b1_1111))?.pattern(), 31);
+    refused(
+        &rt,
+        Wheel::new(numbers(2, 3, 0b10_0000)),
+        Refusal::Pattern,
+        33,
+    )?;
+    refused(
+        &rt,
+        Wheel::new(numbers(62, 1, 1 << 63)),
+        Refusal::Pattern,
+        33,
+    )?;
     // No period is told before the pattern.
-    refused(&rt, Wheel::new(2, 0, u64::MAX), Refusal::Wheel, 32)
+    refused(&rt, Wheel::new(numbers(2, 0, u64::MAX)), Refusal::Wheel, 32)
 }
 
 #[test]
 fn classes(rt: HostRuntime) -> Result<(), Fail> {
-    let wheel = Wheel::new(2, 3, 0)?;
+    let wheel = Wheel::new(numbers(2, 3, 0))?;
     assert_eq!(rt; wheel.fold(0), 0);
     assert_eq!(rt; wheel.fold(1), 1);
     assert_eq!(rt; wheel.fold(2), 2);
@@ -42,7 +57,7 @@ fn classes(rt: HostRuntime) -> Result<(), Fail> {
 #[test]
 fn answers(rt: HostRuntime) -> Result<(), Fail> {
     // Yes to 1, and to 3, 6, 9 and so on.
-    let wheel = Wheel::new(2, 3, 0b0_1010)?;
+    let wheel = Wheel::new(numbers(2, 3, 0b0_1010))?;
     assert!(rt; !wheel.says(0));
     assert!(rt; wheel.says(1));
     assert!(rt; !wheel.says(4));
@@ -56,7 +71,7 @@ fn answers(rt: HostRuntime) -> Result<(), Fail> {
 
 #[test]
 fn last_class(rt: HostRuntime) -> Result<(), Fail> {
-    let wheel = Wheel::new(63, 1, 1 << 63)?;
+    let wheel = Wheel::new(numbers(63, 1, 1 << 63))?;
     assert!(rt; !wheel.says(62));
     assert!(rt; wheel.says(63));
     assert!(rt; wheel.says(u64::MAX));
@@ -67,7 +82,7 @@ fn last_class(rt: HostRuntime) -> Result<(), Fail> {
 #[test]
 fn scales_of_a_set(rt: HostRuntime) -> Result<(), Fail> {
     let mut set = WheelSet::new();
-    set.set(7, 2, 3, 0b1_0000)?;
+    set.set(7, numbers(2, 3, 0b1_0000))?;
     assert_eq!(rt; set.size(7), 5);
     assert_eq!(rt; set.size(8), 5);
     assert_eq!(rt; set.size(6), 1);
@@ -83,10 +98,10 @@ fn scales_of_a_set(rt: HostRuntime) -> Result<(), Fail> {
 #[test]
 fn refused_settings(rt: HostRuntime) -> Result<(), Fail> {
     let mut set = WheelSet::new();
-    refused(&rt, set.set(8, 2, 3, 0), Refusal::Scale, 17)?;
-    refused(&rt, set.set(8, 2, 0, u64::MAX), Refusal::Scale, 17)?;
-    refused(&rt, set.set(7, 2, 0, 0), Refusal::Wheel, 32)?;
-    refused(&rt, set.set(7, 2, 3, 32), Refusal::Pattern, 33)?;
+    refused(&rt, set.set(8, numbers(2, 3, 0)), Refusal::Scale, 17)?;
+    refused(&rt, set.set(8, numbers(2, 0, u64::MAX)), Refusal::Scale, 17)?;
+    refused(&rt, set.set(7, numbers(2, 0, 0)), Refusal::Wheel, 32)?;
+    refused(&rt, set.set(7, numbers(2, 3, 32)), Refusal::Pattern, 33)?;
     assert_eq!(rt; set.size(7), 1);
     Ok(())
 }
