@@ -26,6 +26,6 @@ fn told(heap: std::alloc::Global, log: &[Line], formula: usize, place: usize) ->
     match judge(&sheet, &scales::limits()?, log, formula, place) {
         Ok(true) => Ok(1),
         Ok(false) => Ok(0),
-        Err(refusal) => Ok(refusal.code()),
+        Err(refusal) => Ok(u8::from(refusal)),
     }
 }
