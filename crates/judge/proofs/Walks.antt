@@ -1,43 +1,28 @@
--- The walks over a held log, one line further. Assumes nothing.
-use Rattle.std.proofs.Common.{◌≡◌, ℕ, ◌+◌, ◌-◌, ◌<◌, ◌≤◌, Bool, true, false, ◌||◌, ltb, List, [], ◌∷◌, length, get_or, drop, sym, refl, ap, ◌∙◌, arith}
-use Rattle.std.proofs.lemmas.List.{drop_all, drop_more}
-use Rattle.std.proofs.lemmas.Bool.{le-ltb, lt-ltb}
+-- A log falls unless each line is no later than the next. Assumes nothing.
+use Rattle.std.proofs.Common.{◌≡◌, ℕ, zero, suc, ◌+◌, ◌<◌, Bool, true, false, not, ◌||◌, ltb, leb, List, [], ◌∷◌, length, get_or, sym, refl, ap, ap₂, arith}
+use Rattle.std.specs.List.{AllAdjacentBelow, IsAllAdjacentAnswer}
+use Rattle.std.proofs.lemmas.Bool.{le-ltb, leb-false, leb-true, lt-ltb, or_right}
 use Rattle.line.specs.declared.Line.{Line}
-use Rattle.line.specs.Marks.{unknown}
-use Rattle.truth.specs.Truth.{blank}
-use Rattle.judge.specs.Refused.{any_unknown, falls}
+use Rattle.judge.specs.Refused.{falls}
 
-module _ (log : List Line) (i : ℕ) (lt : i < length log) where
-  pub unknown_on : any_unknown (drop i log) ≡ any_unknown log → false ≡ unknown (get_or log i blank).marks → any_unknown (drop (i + 1) log) ≡ any_unknown log
-  unknown_on inv e = ap (λ (t : Bool). t || any_unknown (drop (i + 1) log)) e ∙ ap any_unknown (sym (drop_more log i blank lt)) ∙ inv
+abbrev pub no_later : Line → Line → Bool
+no_later l m = leb l.time m.time
 
-  pub unknown_here : any_unknown (drop i log) ≡ any_unknown log → true ≡ unknown (get_or log i blank).marks → true ≡ any_unknown log
-  unknown_here inv e = ap (λ (t : Bool). t || any_unknown (drop (i + 1) log)) e ∙ ap any_unknown (sym (drop_more log i blank lt)) ∙ inv
+rising : (log : List Line) → AllAdjacentBelow (λ l m. true ≡ no_later l m) log (length log) → falls log ≡ false
+rising [] h = refl
+rising (l ∷ []) h = refl
+rising (l ∷ m ∷ log) h =
+    ap₂ ◌||◌ (le-ltb m.time l.time (leb-true l.time m.time (sym (h 0 l (omega arith)))))
+    (rising (m ∷ log) (λ k d lt. let e : suc k + 1 ≡ suc (k + 1) = omega arith in rw e at (h (suc k) d (omega arith))))
 
-pub unknown_none : (log : List Line) (i : ℕ) → length log ≤ i → any_unknown (drop i log) ≡ any_unknown log → false ≡ any_unknown log
-unknown_none log i le inv = sym (ap any_unknown (drop_all i log le)) ∙ inv
+falling : (log : List Line) (k : ℕ) → k + 1 < length log → ((d : Line) → false ≡ no_later (get_or log k d) (get_or log (k + 1) d)) → falls log ≡ true
+falling [] k lt here = absurd (omega arith)
+falling (l ∷ []) k lt here = absurd (omega arith)
+falling (l ∷ m ∷ log) zero lt here = ap (λ (t : Bool). t || falls (m ∷ log)) (lt-ltb m.time l.time (leb-false l.time m.time (sym (here l))))
+falling (l ∷ m ∷ log) (suc k) lt here =
+    or_right (ltb m.time l.time) _
+    (falling (m ∷ log) k (omega arith) (λ d. let e : suc k + 1 ≡ suc (k + 1) = omega arith in rw e at (here d)))
 
-module _ (log : List Line) (i : ℕ) (one : 1 ≤ i) (lt : i < length log) where
-  two_lines : falls (drop (i - 1) log) ≡ (ltb (get_or log i blank).time (get_or log (i - 1) blank).time || falls (drop i log))
-  two_lines =
-      let back : i - 1 + 1 ≡ i = omega arith in
-      let first = drop_more log (i - 1) blank (omega arith) ∙ ap (λ (k : ℕ). get_or log (i - 1) blank ∷ drop k log) back in
-      let second = drop_more log i blank lt in
-      ap falls (first ∙ ap (λ (l : List Line). get_or log (i - 1) blank ∷ l) second)
-      ∙ ap (λ (l : List Line). ltb (get_or log i blank).time (get_or log (i - 1) blank).time || falls l) (sym second)
-
-  pub falls_on : falls (drop (i - 1) log) ≡ falls log → (get_or log (i - 1) blank).time ≤ (get_or log i blank).time → falls (drop (i + 1 - 1) log) ≡ falls log
-  falls_on inv le =
-      let back : i + 1 - 1 ≡ i = omega arith in
-      ap (λ (k : ℕ). falls (drop k log)) back ∙ sym (ap (λ (t : Bool). t || falls (drop i log)) (le-ltb _ _ le)) ∙ sym two_lines ∙ inv
-
-  pub falls_here : falls (drop (i - 1) log) ≡ falls log → (get_or log i blank).time < (get_or log (i - 1) blank).time → true ≡ falls log
-  falls_here inv below = sym (ap (λ (t : Bool). t || falls (drop i log)) (lt-ltb _ _ below)) ∙ sym two_lines ∙ inv
-
-one_or_none : (log : List Line) → length log ≤ 1 → falls log ≡ false
-one_or_none [] h = refl
-one_or_none (l ∷ []) h = refl
-one_or_none (l ∷ m ∷ log) h = absurd (omega arith)
-
-pub falls_none : (log : List Line) (i : ℕ) → length log ≤ i → falls (drop (i - 1) log) ≡ falls log → false ≡ falls log
-falls_none log i le inv = sym (one_or_none (drop (i - 1) log) (omega (arith, lib.ListN.length-drop (i - 1) log))) ∙ inv
+pub falls_unless : (log : List Line) (sorted : Bool) → IsAllAdjacentAnswer (λ l m b. b ≡ no_later l m) log sorted → not sorted ≡ falls log
+falls_unless log true h = sym (rising log h)
+falls_unless log false h = sym (falling log h.0 h.1 h.2)

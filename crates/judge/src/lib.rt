@@ -24,8 +24,7 @@ pub fn judge(
 ) -> Result<bool, Refusal>
     ensures { result ≡ judged (contents.of sheet.now).formulas scales.now log.now formula place }
 {
-    match checks::refusal(sheet.formulas(), log, formula, place) {
-        Some(why) => Err(why),
-        None => Ok(counting::holds(sheet.formulas(), scales, log, formula, place)),
-    }
+    let formulas = sheet.formulas();
+    checks::check(formulas, log, formula, place)?;
+    Ok(counting::holds(formulas, scales, log, formula, place))
 }
