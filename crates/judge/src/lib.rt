@@ -10,11 +10,13 @@ mod checks;
 mod counting;
 
 pub use answers::Refusal;
+use counting::Held;
 use line::Line;
 use scale::Plain;
 use sheet::Sheet;
 
 // Whether the formula holds at the place, with the scales as the meanings; or why it is not judged.
+#[tactic(auto, unfolding(crate::specs::Counting::truth))]
 pub fn judge(
     sheet: &Sheet,
     scales: &[Plain; 8],
@@ -26,5 +28,10 @@ pub fn judge(
 {
     let formulas = sheet.formulas();
     checks::check(formulas, log, formula, place)?;
-    Ok(counting::holds(formulas, scales, log, formula, place))
+    let held = Held {
+        formulas,
+        scales,
+        log,
+    };
+    Ok(held.holds(formula, place))
 }

@@ -39,7 +39,7 @@ count_agree (suc j) p q e = λ i. cond (e (suc j) (omega arith) (omega arith) i)
 abbrev pub NoneUpTo : ℕ → (ℕ → Bool) → Type 0
 NoneUpTo j p = (h : ℕ) → 1 ≤ h → h ≤ j → p h ≡ false
 
-some_none : (j : ℕ) (p : ℕ → Bool) → NoneUpTo j p → some j p ≡ false
+pub some_none : (j : ℕ) (p : ℕ → Bool) → NoneUpTo j p → some j p ≡ false
 some_none zero p e = refl
 some_none (suc j) p e = ap₂ ◌||◌ (e (suc j) (omega arith) (omega arith)) (some_none j p (λ h lo hi. e h lo (omega arith)))
 
@@ -47,12 +47,12 @@ last_none : (j : ℕ) (p : ℕ → Bool) → NoneUpTo j p → last j p ≡ 0
 last_none zero p e = refl
 last_none (suc j) p e = ap (λ (b : Bool). cond b (suc j) (last j p)) (e (suc j) (omega arith) (omega arith)) ∙ last_none j p (λ h lo hi. e h lo (omega arith))
 
-count_none : (j : ℕ) (p : ℕ → Bool) → NoneUpTo j p → count j p ≡ 0
+pub count_none : (j : ℕ) (p : ℕ → Bool) → NoneUpTo j p → count j p ≡ 0
 count_none zero p e = refl
 count_none (suc j) p e = (λ i. cond (e (suc j) (omega arith) (omega arith) i) 1 0 + count j p) ∙ (let r = count_none j p (λ h lo hi. e h lo (omega arith)) in omega arith)
 
 -- every place after h is vacuous up to h
-every_vacuous : (h j : ℕ) (p : ℕ → Bool) → j ≤ h → every h j p ≡ true
+pub every_vacuous : (h j : ℕ) (p : ℕ → Bool) → j ≤ h → every h j p ≡ true
 every_vacuous h zero p le = refl
 every_vacuous h (suc j) p le = ap₂ ◌&&◌ (ap (λ (b : Bool). not b || p (suc j)) (le-ltb h (suc j) le)) (every_vacuous h j p (omega arith))
 
