@@ -4,7 +4,7 @@ use Rattle.std.proofs.lemmas.Bool.{and_right, cond_both, le-ltb, lt-ltb}
 use Rattle.truth.specs.Places.{count, every, last, some}
 use Rattle.truth.proofs.Shift.{count_none, every_vacuous, some_agree, some_none}
 use Rattle.judge.specs.declared.counting.Asked.{Asked}
-use Rattle.judge.specs.declared.counting.Held.{Held}
+use Rattle.judge.specs.declared.held.Held.{Held}
 use Rattle.judge.specs.Counting.{count_down, near, since_down, truth}
 
 module _ (w a b : ℕ → Bool) (h : ℕ) where

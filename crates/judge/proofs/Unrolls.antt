@@ -12,7 +12,7 @@ use Rattle.sheet.specs.Conditions.{lawful_at}
 use Rattle.sheet.specs.Formulas.{built, built_on}
 use Rattle.sheet.proofs.Built.{length-built}
 use Rattle.truth.specs.Truth.{at, counted, Meanings, previous, since, truth_of, within}
-use Rattle.judge.specs.declared.counting.Held.{Held}
+use Rattle.judge.specs.declared.held.Held.{Held}
 use Rattle.judge.specs.Counting.{count_down, since_down, truth}
 use Rattle.judge.specs.Scales.{meaning, said}
 

@@ -3,7 +3,7 @@ use Rattle.std.specs.Prelude.{ℕ, Bool, ◌&&◌, nat_lt}
 use Rattle.truth.specs.Places.{count, every, last, some}
 use Rattle.truth.specs.Truth.{holds, within}
 use Rattle.judge.specs.declared.counting.Asked.{Asked}
-use Rattle.judge.specs.declared.counting.Held.{Held}
+use Rattle.judge.specs.declared.held.Held.{Held}
 use Rattle.judge.specs.Scales.{meaning}
 
 -- the formula n at the place j of a held log

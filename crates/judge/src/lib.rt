@@ -8,9 +8,10 @@ ghost use Rattle.judge.specs.Judged.{judged};
 mod answers;
 mod checks;
 mod counting;
+mod held;
 
 pub use answers::Refusal;
-use counting::Held;
+use held::Held;
 use line::Line;
 use scale::Plain;
 use sheet::Sheet;
@@ -26,12 +27,11 @@ pub fn judge(
 ) -> Result<bool, Refusal>
     ensures { result ≡ judged (contents.of sheet.now).formulas scales.now log.now formula place }
 {
-    let formulas = sheet.formulas();
-    checks::check(formulas, log, formula, place)?;
     let held = Held {
-        formulas,
+        formulas: sheet.formulas(),
         scales,
         log,
     };
+    held.check(formula, place)?;
     Ok(held.holds(formula, place))
 }

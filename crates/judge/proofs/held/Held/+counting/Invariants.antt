@@ -1,5 +1,5 @@
 use Rattle.std.proofs.Common.{ℕ, ◌+◌, ◌*◌, ◌^◌, max}
-use Rattle.judge.proofs.counting.Held.+counting.Given as goal
+use Rattle.judge.proofs.held.Held.+counting.Given as goal
 
 -- one falling number, made of a formula's number and a place, which is below 2 ^ 64
 
