@@ -1,7 +1,7 @@
 -- What follows a place does not change the truth at it. Assumes nothing.
-use Rattle.std.proofs.Common.{◌≡◌, ℕ, ◌-◌, ◌≤◌, Bool, false, not, ◌&&◌, ◌||◌, ltb, List, ◌++◌, length, get_or, sym, refl, ap, ◌∙◌, ap₂, ⊎_elim, arith}
+use Rattle.std.proofs.Common.{◌≡◌, ℕ, ◌-◌, ◌≤◌, Bool, false, not, ◌&&◌, ◌||◌, ltb, List, ◌++◌, length, get_or, refl, ap, ap₂, arith}
 use Rattle.std.proofs.lemmas.List.{get_or_append_left}
-use Rattle.std.proofs.lemmas.Bool.{cases_lt, le-ltb}
+use Rattle.std.proofs.lemmas.Bool.{ltb-true}
 use Rattle.line.specs.declared.Line.{Line}
 use Rattle.line.specs.Marks.{has}
 use Rattle.sheet.specs.declared.Formula.{Formula}
@@ -11,7 +11,7 @@ use Rattle.sheet.specs.Windows.{inside}
 use Rattle.truth.specs.Laws.{LooksBack}
 use Rattle.truth.specs.Truth.{at, counted, Meanings, previous, reset, since, truth_of, within}
 use Rattle.truth.proofs.Along.{built_along}
-use Rattle.truth.proofs.Shift.{count_agree, every_agree, last_agree, some_agree}
+use Rattle.truth.proofs.Shift.{count_agree, every_agree, last_agree, some_agree, where_so}
 
 abbrev pub never : ℕ → Bool
 never j = false
@@ -30,10 +30,8 @@ module _ (M : Meanings) (log more : List Line) where
   module _ (a b a' b' : ℕ → Bool) (w : Window) (ha : Alike a a') (hb : Alike b b') where
     previous_back : Alike (previous (log ++ more) a w) (previous log a' w)
     previous_back j lo hi =
-        ⊎_elim
-        (λ first. ap (λ (t : Bool). t && (within (log ++ more) w j (j - 1) && a (j - 1))) (le-ltb 1 j (omega arith)) ∙ sym (ap (λ (t : Bool). t && (within log w j (j - 1) && a' (j - 1))) (le-ltb 1 j (omega arith))))
-        (λ later. λ i. ltb 1 j && (same_within w j (j - 1) (omega arith) (omega arith) hi i && ha (j - 1) (omega arith) (omega arith) i))
-        (cases_lt j 2)
+        where_so (ltb 1 j) _ _
+        (λ t. let later = ltb-true 1 j t in λ i. same_within w j (j - 1) (omega arith) (omega arith) hi i && ha (j - 1) (omega arith) (omega arith) i)
 
     since_back : Alike (since (log ++ more) a b w) (since log a' b' w)
     since_back j lo hi =

@@ -1,7 +1,8 @@
 -- What lies past the reach does not matter. Assumes nothing.
-use Rattle.std.proofs.Common.{◌≡◌, ℕ, zero, suc, ◌+◌, ◌-◌, ◌<◌, ◌≤◌, max, Bool, true, false, not, ◌&&◌, ◌||◌, ltb, leb, List, ◌++◌, length, get_or, Some, None, Option, sym, refl, ap, ◌∙◌, subst, ap₂, ⊎_elim, arith, length-append}
+use Rattle.std.proofs.Common.{◌≡◌, ℕ, zero, suc, ◌+◌, ◌-◌, ◌<◌, ◌≤◌, max, Bool, true, false, not, ◌&&◌, ◌||◌, ltb, leb, List, ◌++◌, length, get_or, Some, None, Option, sym, refl, ap, ◌∙◌, ap₂, arith, length-append}
 use Rattle.std.proofs.lemmas.List.{get_or-append-add}
 use Rattle.std.proofs.lemmas.Bool.{and_parts, and_right, cases_lt, le-ltb, lt-ltb, ltb-true}
+use Rattle.std.proofs.lemmas.Bool.Decides.{nat_tests}
 use Rattle.line.specs.declared.Line.{Line}
 use Rattle.line.specs.Marks.{has}
 use Rattle.sheet.specs.declared.Formula.{Formula}
@@ -15,7 +16,7 @@ use Rattle.truth.specs.Order.{InOrder}
 use Rattle.truth.specs.Truth.{at, blank, counted, Meanings, previous, reset, since, truth_of, within}
 use Rattle.truth.proofs.Along.{built_along}
 use Rattle.truth.proofs.Back.{never}
-use Rattle.truth.proofs.Shift.{after_moved, count_agree, count_moved, every_agree, every_moved, last_agree, last_moved, moved, some_agree, some_moved}
+use Rattle.truth.proofs.Shift.{after_moved, count_agree, count_moved, every_agree, every_moved, last_agree, last_moved, moved, some_agree, some_moved, where_so}
 
 -- what a reach was made of
 
@@ -31,26 +32,17 @@ greater_of None y r e = cc e
 greater_of (Some x) None r e = cc e
 greater_of (Some x) (Some y) r e = record { left = x; right = y; is_left = refl; is_right = refl; most = cc e }
 
-record Beyond (w : Window) (x : Option ℕ) (r : ℕ) : Type 0 where
-  low : ℕ
-  high : ℕ
+record Beyond (high : ℕ) (x : Option ℕ) (r : ℕ) : Type 0 where
   below : ℕ
-  closed : w ≡ Closed low high
   is_below : x ≡ Some below
   sum : r ≡ high - 1 + below
 
-beyond_of : (w : Window) (x : Option ℕ) (r : ℕ) → beyond w x ≡ Some r → Beyond w x r
-beyond_of (Closed low high) None r e = cc e
-beyond_of (Closed low high) (Some x) r e = record { low = low; high = high; below = x; closed = refl; is_below = refl; sum = cc e }
-beyond_of (Open low) x r e = cc e
-
--- a test that matters only where another holds
-where_so : (t x y : Bool) → (t ≡ true → x ≡ y) → (t && x) ≡ (t && y)
-where_so true x y e = e refl
-where_so false x y e = refl
+beyond_of : (low high : ℕ) (x : Option ℕ) (r : ℕ) → beyond (Closed low high) x ≡ Some r → Beyond high x r
+beyond_of low high None r e = cc e
+beyond_of low high (Some x) r e = record { below = x; is_below = refl; sum = cc e }
 
 moved_after : (k m h : ℕ) → 1 ≤ h → ltb (moved k m) (k + h) ≡ ltb m h
-moved_after k zero h lo = lt-ltb 0 (k + h) (omega arith) ∙ sym (lt-ltb 0 h lo)
+moved_after k zero h lo = grind (arith, nat_tests)
 moved_after k (suc m) h lo = after_moved k (suc m) h
 
 module _ (M : Meanings) (front log : List Line) (order : InOrder (front ++ log)) (some-line : 1 ≤ length log) where
@@ -74,11 +66,7 @@ module _ (M : Meanings) (front log : List Line) (order : InOrder (front ++ log))
   Far r j = (at log 1).time + r < (at log j).time
 
   not_first : (j r : ℕ) → 1 ≤ j → Far r j → 1 < j
-  not_first j r one far =
-      ⊎_elim
-      (λ lt. let e : j ≡ 1 = omega arith in absurd (omega (arith, far, ap (λ (n : ℕ). (at log n).time) e)))
-      (λ ge. ge)
-      (cases_lt j 2)
+  not_first j r one far = grind arith
 
   within_there : (w : Window) (j h : ℕ) → 1 ≤ h → 1 ≤ j → within (front ++ log) w (length front + j) (length front + h) ≡ within log w j h
   within_there w j h lo mid = λ i. inside w ((there j mid i).time - (there h lo i).time)
@@ -145,25 +133,25 @@ module _ (M : Meanings) (front log : List Line) (order : InOrder (front ++ log))
         (λ j lo hi far. all a g.left g.is_left j lo hi (omega (arith, g.most)), λ j lo hi far. all b g.right g.is_right j lo hi (omega (arith, g.most)))
 
     far_previous : (a : ℕ) (w : Window) → Agrees (beyond w (reach_at rs a)) (previous (front ++ log) (get_or ts a never) w) (previous log (get_or us a never) w)
-    far_previous a w r e j lo hi far =
-        let b = beyond_of w (reach_at rs a) r e in
+    far_previous a (Open low) r e j lo hi far = cc e
+    far_previous a (Closed low high) r e j lo hi far =
+        let b = beyond_of low high (reach_at rs a) r e in
         let h = all a b.below b.is_below in
-        subst (λ (v : Window). previous (front ++ log) (get_or ts a never) v (length front + j) ≡ previous log (get_or us a never) v j) (sym b.closed)
-        (previous_far b.low b.high (get_or ts a never) (get_or ts a never) (get_or us a never) (get_or us a never) b.below h h j lo hi (omega (arith, b.sum)))
+        previous_far low high (get_or ts a never) (get_or ts a never) (get_or us a never) (get_or us a never) b.below h h j lo hi (omega (arith, b.sum))
 
     far_since : (a c : ℕ) (w : Window) → Agrees (beyond w (greater (reach_at rs a) (reach_at rs c))) (since (front ++ log) (get_or ts a never) (get_or ts c never) w) (since log (get_or us a never) (get_or us c never) w)
-    far_since a c w r e j lo hi far =
-        let b = beyond_of w (greater (reach_at rs a) (reach_at rs c)) r e in
+    far_since a c (Open low) r e j lo hi far = cc e
+    far_since a c (Closed low high) r e j lo hi far =
+        let b = beyond_of low high (greater (reach_at rs a) (reach_at rs c)) r e in
         let h = by_both a c b.below b.is_below in
-        subst (λ (v : Window). since (front ++ log) (get_or ts a never) (get_or ts c never) v (length front + j) ≡ since log (get_or us a never) (get_or us c never) v j) (sym b.closed)
-        (since_far b.low b.high (get_or ts a never) (get_or ts c never) (get_or us a never) (get_or us c never) b.below h.0 h.1 j lo hi (omega (arith, b.sum)))
+        since_far low high (get_or ts a never) (get_or ts c never) (get_or us a never) (get_or us c never) b.below h.0 h.1 j lo hi (omega (arith, b.sum))
 
     far_count : (a c s : ℕ) (w : Window) → Agrees (beyond w (greater (reach_at rs a) (reach_at rs c))) (λ j. M.says s (counted (front ++ log) (get_or ts a never) (get_or ts c never) w j)) (λ j. M.says s (counted log (get_or us a never) (get_or us c never) w j))
-    far_count a c s w r e j lo hi far =
-        let b = beyond_of w (greater (reach_at rs a) (reach_at rs c)) r e in
+    far_count a c s (Open low) r e j lo hi far = cc e
+    far_count a c s (Closed low high) r e j lo hi far =
+        let b = beyond_of low high (greater (reach_at rs a) (reach_at rs c)) r e in
         let h = by_both a c b.below b.is_below in
-        subst (λ (v : Window). M.says s (counted (front ++ log) (get_or ts a never) (get_or ts c never) v (length front + j)) ≡ M.says s (counted log (get_or us a never) (get_or us c never) v j)) (sym b.closed)
-        (ap (M.says s) (counted_far b.low b.high (get_or ts a never) (get_or ts c never) (get_or us a never) (get_or us c never) b.below h.0 h.1 j lo hi (omega (arith, b.sum))))
+        ap (M.says s) (counted_far low high (get_or ts a never) (get_or ts c never) (get_or us a never) (get_or us c never) b.below h.0 h.1 j lo hi (omega (arith, b.sum)))
 
     truth_far : (f : Formula) → Agrees (reach_of rs f) (truth_of M (front ++ log) ts f) (truth_of M log us f)
     truth_far Never r e j lo hi far = refl
