@@ -1,6 +1,6 @@
 -- Since and count, one place further back. Assumes nothing.
 use Rattle.std.proofs.Common.{◌≡◌, ℕ, zero, suc, ◌+◌, ◌-◌, ◌<◌, ◌≤◌, Bool, true, false, cond, not, ◌&&◌, ◌||◌, ltb, refl, ap, ◌∙◌, arith}
-use Rattle.std.proofs.lemmas.Bool.{and_right, cond_both, le-ltb, lt-ltb}
+use Rattle.std.proofs.lemmas.Bool.{and_right, cond_both, le-ltb, lt-ltb, or_right}
 use Rattle.truth.specs.Places.{count, every, last, some}
 use Rattle.truth.proofs.Shift.{count_none, every_vacuous, some_agree, some_none}
 use Rattle.judge.specs.declared.counting.Asked.{Asked}
@@ -12,18 +12,14 @@ module _ (w a b : ℕ → Bool) (h : ℕ) where
 
   -- a place before has a after it up to suc h if it has so up to h, and suc h has it
   earlier : (t : Bool) → some h (λ i. w i && (b i && ((not (ltb i (suc h)) || t) && every i h a))) ≡ (t && some h (λ i. w i && (b i && every i h a)))
-  earlier true = some_agree h _ _ (λ i lo hi. λ k. w i && (b i && (or_true (not (ltb i (suc h))) k && every i h a)))
-    where
-      or_true : (x : Bool) → (x || true) ≡ true
-      or_true true = refl
-      or_true false = refl
+  earlier true = some_agree h _ _ (λ i lo hi. λ k. w i && (b i && (or_right (not (ltb i (suc h))) true refl k && every i h a)))
   earlier false = some_none h _ (λ i lo hi. and_right (w i) _ (and_right (b i) _ (λ k. (not (lt-ltb i (suc h) (omega arith) k) || false) && every i h a)))
 
   here : (t : Bool) → (t && every (suc h) (suc h) a) ≡ t
   here true = every_vacuous (suc h) (suc h) a (omega arith)
   here false = refl
 
-  pub since_more : some (suc h) (λ i. w i && (b i && every i (suc h) a)) ≡ ((w (suc h) && b (suc h)) || (a (suc h) && some h (λ i. w i && (b i && every i h a))))
+  since_more : some (suc h) (λ i. w i && (b i && every i (suc h) a)) ≡ ((w (suc h) && b (suc h)) || (a (suc h) && some h (λ i. w i && (b i && every i h a))))
   since_more = λ k. (w (suc h) && here (b (suc h)) k) || earlier (a (suc h)) k
 
   -- places that are near and have b, after the last that is near and has a
@@ -47,7 +43,7 @@ module _ (w a b : ℕ → Bool) (h : ℕ) where
       let below : turn < suc h = omega (arith, last_le h (λ i. w i && a i)) in
       (λ k. cond (lt-ltb turn (suc h) below k && b (suc h)) 1 0 + count h (after turn)) ∙ omega arith
 
-  pub count_more : count (suc h) (after (last (suc h) (λ i. w i && a i))) ≡ cond (w (suc h)) (cond (a (suc h)) 0 (count h (after turn) + cond (b (suc h)) 1 0)) (count h (after turn))
+  count_more : count (suc h) (after (last (suc h) (λ i. w i && a i))) ≡ cond (w (suc h)) (cond (a (suc h)) 0 (count h (after turn) + cond (b (suc h)) 1 0)) (count h (after turn))
   count_more = by (w (suc h)) (a (suc h))
 
 module _ (held : Held) (asked : Asked) where

@@ -12,12 +12,10 @@ use Rattle.sheet.specs.Conditions.{lawful_at}
 use Rattle.sheet.specs.Formulas.{built, built_on}
 use Rattle.sheet.proofs.Built.{length-built}
 use Rattle.truth.specs.Truth.{at, counted, Meanings, previous, since, truth_of, within}
+use Rattle.truth.proofs.Back.{never}
 use Rattle.judge.specs.declared.held.Held.{Held}
 use Rattle.judge.specs.Counting.{count_down, since_down, truth}
 use Rattle.judge.specs.Scales.{meaning, said}
-
-abbrev never : ℕ → Bool
-never j = false
 
 -- what is built on others is made from a front of them, and stays as more is built on it
 

@@ -1,6 +1,6 @@
 use Rattle.std.proofs.Common.{rules}
 use Rattle.std.proofs.lemmas.List.Sorted.{answers_always}
-use Rattle.judge.proofs.Walks.{falls_unless, no_later}
+use Rattle.judge.proofs.Falls.{falls_unless, no_later}
 use Rattle.judge.proofs.checks.falls.Goals as goal
 
 pub returns : goal.returns
