@@ -24,7 +24,7 @@ fn falls(log: &[Line]) -> bool
 
 impl Held<'_> {
     // Tells why a formula is not judged at a place, if it is not.
-    pub fn check(&self, n: usize, place: usize) -> Result<(), Refusal>
+    pub(crate) fn check(&self, n: usize, place: usize) -> Result<(), Refusal>
         ensures { result_err result ≡ refused.refusal self.now.formulas.now self.now.log.now n place }
     {
         if any_unknown(self.log) {

@@ -20,7 +20,7 @@ impl Held<'_> {
     // Whether the formula `n` holds at the place.
     #[cycle(counting)]
     #[tactic(auto, using(crate::proofs::Unrolls::unrolls))]
-    pub fn holds(&self, n: usize, place: usize) -> bool
+    pub(crate) fn holds(&self, n: usize, place: usize) -> bool
         ensures { result ≡ truth self.now n place }
     {
         match self.formula(n) {

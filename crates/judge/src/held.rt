@@ -10,10 +10,10 @@ const BLANK: Line = Line { time: 0, marks: 0 };
 
 // A log that is held, with the formulas that are asked of it and what the scales mean.
 #[derive(Clone, Copy)]
-pub struct Held<'a> {
-    pub formulas: &'a [Formula],
-    pub scales: &'a [Plain],
-    pub log: &'a [Line],
+pub(crate) struct Held<'a> {
+    pub(crate) formulas: &'a [Formula],
+    pub(crate) scales: &'a [Plain],
+    pub(crate) log: &'a [Line],
     ghost lawful: { EachLawful formulas.now },
 }
 
@@ -25,7 +25,7 @@ impl Held<'_> {
     ghost use Rattle.judge.specs.Scales.{said};
 
     // The formula with a number. A number that is not there never holds.
-    pub fn formula(&self, n: usize) -> Formula
+    pub(crate) fn formula(&self, n: usize) -> Formula
         ensures value { result ≡ slice_index_or self.now.formulas.now n Never }
         ensures lawful { lawful_at n result ≡ true }
     {
@@ -33,7 +33,7 @@ impl Held<'_> {
     }
 
     // The line at a place, from 1.
-    pub fn line(&self, place: usize) -> Line
+    pub(crate) fn line(&self, place: usize) -> Line
         ensures { result ≡ at self.now.log.now place }
     {
         let index = place.saturating_sub(1);
@@ -41,7 +41,7 @@ impl Held<'_> {
     }
 
     // Whether the gap in seconds from place `h` lies in the window.
-    pub fn is_within(&self, window: Window, place: usize, h: usize) -> bool
+    pub(crate) fn is_within(&self, window: Window, place: usize, h: usize) -> bool
         ensures { result ≡ within self.now.log.now window place h }
     {
         window.contains(self.line(place).time.saturating_sub(self.line(h).time))
@@ -49,7 +49,7 @@ impl Held<'_> {
 
     // What a scale says to a count. A scale that is not there says no.
     #[tactic(auto, using(crate::proofs::Saids::said_at, crate::proofs::Saids::said_past))]
-    pub fn says(&self, scale: u8, count: u64) -> bool
+    pub(crate) fn says(&self, scale: u8, count: u64) -> bool
         ensures { result ≡ said self.now.scales.now scale count }
     {
         match self.scales.get(usize::from(scale)) {
