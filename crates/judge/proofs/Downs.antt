@@ -5,7 +5,7 @@ use Rattle.truth.specs.Places.{count, every, last, some}
 use Rattle.truth.proofs.Shift.{count_none, every_vacuous, some_agree, some_none}
 use Rattle.judge.specs.declared.counting.Asked.{Asked}
 use Rattle.judge.specs.declared.held.Held.{Held}
-use Rattle.judge.specs.Counting.{count_down, near, since_down, truth}
+use Rattle.judge.specs.Counting.{count_up_to, near, since_up_to, truth}
 
 module _ (w a b : ℕ → Bool) (h : ℕ) where
   -- places that are near and have b, since which a holds
@@ -47,29 +47,29 @@ module _ (w a b : ℕ → Bool) (h : ℕ) where
   count_more = by (w (suc h)) (a (suc h))
 
 module _ (held : Held) (asked : Asked) where
-  pub since_none : since_down held asked 0 ≡ false
-  unfolding since_down
+  pub since_none : since_up_to held asked 0 ≡ false
+  unfolding since_up_to
   since_none = refl
 
-  pub since_step : (h : ℕ) → 0 < h → since_down held asked h ≡ ((near held asked h && truth held asked.b h) || (truth held asked.a h && since_down held asked (h - 1)))
-  unfolding since_down
+  pub since_step : (h : ℕ) → 0 < h → since_up_to held asked h ≡ ((near held asked h && truth held asked.b h) || (truth held asked.a h && since_up_to held asked (h - 1)))
+  unfolding since_up_to
   since_step zero lo = absurd (omega arith)
   since_step (suc h) lo =
       let e : h ≡ suc h - 1 = omega arith in
       since_more (near held asked) (truth held asked.a) (truth held asked.b) h
-      ∙ ap (λ (k : ℕ). (near held asked (suc h) && truth held asked.b (suc h)) || (truth held asked.a (suc h) && since_down held asked k)) e
+      ∙ ap (λ (k : ℕ). (near held asked (suc h) && truth held asked.b (suc h)) || (truth held asked.a (suc h) && since_up_to held asked k)) e
 
-  pub count_zero : count_down held asked 0 ≡ 0
-  unfolding count_down
+  pub count_zero : count_up_to held asked 0 ≡ 0
+  unfolding count_up_to
   count_zero = refl
 
-  pub count_step : (h : ℕ) → 0 < h → count_down held asked h ≡ cond (near held asked h) (cond (truth held asked.a h) 0 (count_down held asked (h - 1) + cond (truth held asked.b h) 1 0)) (count_down held asked (h - 1))
-  unfolding count_down
+  pub count_step : (h : ℕ) → 0 < h → count_up_to held asked h ≡ cond (near held asked h) (cond (truth held asked.a h) 0 (count_up_to held asked (h - 1) + cond (truth held asked.b h) 1 0)) (count_up_to held asked (h - 1))
+  unfolding count_up_to
   count_step zero lo = absurd (omega arith)
   count_step (suc h) lo =
       let e : h ≡ suc h - 1 = omega arith in
       count_more (near held asked) (truth held asked.a) (truth held asked.b) h
-      ∙ ap (λ (k : ℕ). cond (near held asked (suc h)) (cond (truth held asked.a (suc h)) 0 (count_down held asked k + cond (truth held asked.b (suc h)) 1 0)) (count_down held asked k)) e
+      ∙ ap (λ (k : ℕ). cond (near held asked (suc h)) (cond (truth held asked.a (suc h)) 0 (count_up_to held asked k + cond (truth held asked.b (suc h)) 1 0)) (count_up_to held asked k)) e
 
 pub ruleset since_steps = (since_none, since_step)
 

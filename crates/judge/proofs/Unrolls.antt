@@ -14,7 +14,7 @@ use Rattle.sheet.proofs.Built.{length-built}
 use Rattle.truth.specs.Truth.{at, counted, Meanings, previous, since, truth_of, within}
 use Rattle.truth.proofs.Back.{never}
 use Rattle.judge.specs.declared.held.Held.{Held}
-use Rattle.judge.specs.Counting.{count_down, since_down, truth}
+use Rattle.judge.specs.Counting.{count_up_to, since_up_to, truth}
 use Rattle.judge.specs.Scales.{meaning, said}
 
 -- what is built on others is made from a front of them, and stays as more is built on it
@@ -102,12 +102,12 @@ module _ (held : Held) where
     unfolding by_named truth
     of_previous a w = refl
 
-    pub of_since : (a b : ℕ) (w : Window) → by_named (Since a b w) j ≡ since_down held (record { a = a; b = b; window = w; place = j }) j
-    unfolding by_named truth since_down
+    pub of_since : (a b : ℕ) (w : Window) → by_named (Since a b w) j ≡ since_up_to held (record { a = a; b = b; window = w; place = j }) j
+    unfolding by_named truth since_up_to
     of_since a b w = refl
 
-    pub of_count : (a b s : ℕ) (w : Window) → by_named (Count a b s w) j ≡ said held.scales.now s (count_down held (record { a = a; b = b; window = w; place = j }) j)
-    unfolding by_named truth count_down
+    pub of_count : (a b s : ℕ) (w : Window) → by_named (Count a b s w) j ≡ said held.scales.now s (count_up_to held (record { a = a; b = b; window = w; place = j }) j)
+    unfolding by_named truth count_up_to
     of_count a b s w = refl
 
 pub ruleset unrolls = (unrolled, of_never, of_mark, of_not, of_or, of_previous, of_since, of_count)

@@ -16,9 +16,9 @@ module _ (held : Held) (asked : Asked) where
   near i = within held.log.now asked.window asked.place i
 
   -- some place up to h is near and has b, and a holds at every place after it up to h
-  unfoldable pub since_down : ℕ → Bool
-  since_down h = some h (λ i. near i && (truth held asked.b i && every i h (truth held asked.a)))
+  unfoldable pub since_up_to : ℕ → Bool
+  since_up_to h = some h (λ i. near i && (truth held asked.b i && every i h (truth held asked.a)))
 
   -- how many places up to h are near and have b, after the last up to h that is near and has a
-  unfoldable pub count_down : ℕ → ℕ
-  count_down h = count h (λ i. near i && (nat_lt (last h (λ i. near i && truth held asked.a i)) i && truth held asked.b i))
+  unfoldable pub count_up_to : ℕ → ℕ
+  count_up_to h = count h (λ i. near i && (nat_lt (last h (λ i. near i && truth held asked.a i)) i && truth held asked.b i))

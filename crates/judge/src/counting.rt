@@ -1,6 +1,6 @@
 // Truth by plain counting: over formulas of smaller number, and places further back.
 ghost use Rattle.std.specs.Prelude.{◌≡◌, ◌≤◌};
-ghost use Rattle.judge.specs.Counting.{truth, since_down, count_down};
+ghost use Rattle.judge.specs.Counting.{truth, since_up_to, count_up_to};
 
 use crate::held::Held;
 use sheet::{Formula, Window};
@@ -65,7 +65,7 @@ impl Held<'_> {
     #[cycle(counting)]
     #[tactic(auto, using(crate::proofs::Downs::since_steps))]
     fn since(&self, asked: Asked, h: usize) -> bool
-        ensures { result ≡ since_down self.now asked h }
+        ensures { result ≡ since_up_to self.now asked h }
     {
         if h == 0 {
             return false;
@@ -81,7 +81,7 @@ impl Held<'_> {
     #[cycle(counting)]
     #[tactic(auto, using(crate::proofs::Downs::count_steps))]
     fn count(&self, asked: Asked, h: usize) -> u64
-        ensures value { result ≡ count_down self.now asked h }
+        ensures value { result ≡ count_up_to self.now asked h }
         ensures bound { result ≤ h }
     {
         if h == 0 {
