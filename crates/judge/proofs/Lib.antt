@@ -1,3 +1,4 @@
 pub mod Downs
+pub mod Falls
+pub mod Saids
 pub mod Unrolls
-pub mod Walks

@@ -1,29 +1,24 @@
 -- Counting plainly, from a place back. Assumes nothing.
-use Rattle.std.specs.Prelude.{◌≡◌, ℕ, ◌≤◌, Bool, true, ◌&&◌, List, length, nat_lt}
-use Rattle.line.specs.declared.Line.{Line}
-use Rattle.sheet.specs.declared.Formula.{Formula}
-use Rattle.sheet.specs.declared.Window.{Window}
-use Rattle.sheet.specs.Conditions.{EachLawful}
+use Rattle.std.specs.Prelude.{ℕ, Bool, ◌&&◌, nat_lt}
 use Rattle.truth.specs.Places.{count, every, last, some}
-use Rattle.truth.specs.Truth.{reset, within}
+use Rattle.truth.specs.Truth.{holds, within}
+use Rattle.judge.specs.declared.counting.Asked.{Asked}
+use Rattle.judge.specs.declared.held.Held.{Held}
+use Rattle.judge.specs.Scales.{meaning}
 
--- lawful formulas, and a log that is short enough to be judged
-abbrev pub Judgeable : List Formula → List Line → Type 0
-Judgeable formulas log = EachLawful formulas × (length log ≤ 1024)
+-- the formula n at the place j of a held log
+unfoldable pub truth : Held → ℕ → ℕ → Bool
+truth held n j = holds (meaning held.scales.now) held.formulas.now held.log.now n j
 
-module _ (log : List Line) (a b : ℕ → Bool) (w : Window) (j : ℕ) where
-  -- a holds at every place after h up to j
-  abbrev pub Kept : ℕ → Type 0
-  Kept h = every h j a ≡ true
+module _ (held : Held) (asked : Asked) where
+  -- the gap from a place to the one that is asked lies in the window
+  abbrev pub near : ℕ → Bool
+  near i = within held.log.now asked.window asked.place i
 
-  -- since at j, by the places up to h alone
-  abbrev pub since_down : ℕ → Bool
-  since_down h = some h (λ i. within log w j i && (b i && every i j a))
+  -- some place up to h is near and has b, and a holds at every place after it up to h
+  unfoldable pub since_up_to : ℕ → Bool
+  since_up_to h = some h (λ i. near i && (truth held asked.b i && every i h (truth held asked.a)))
 
-  -- no place after h resets the count at j
-  abbrev pub Unreset : ℕ → Type 0
-  Unreset h = last j (λ i. within log w j i && a i) ≡ last h (λ i. within log w j i && a i)
-
-  -- the count at j, by the places up to h alone
-  abbrev pub count_down : ℕ → ℕ
-  count_down h = count h (λ i. within log w j i && (nat_lt (reset log a w j) i && b i))
+  -- how many places up to h are near and have b, after the last up to h that is near and has a
+  unfoldable pub count_up_to : ℕ → ℕ
+  count_up_to h = count h (λ i. near i && (nat_lt (last h (λ i. near i && truth held asked.a i)) i && truth held asked.b i))

@@ -2,31 +2,25 @@
 ghost use Rattle.std.specs.Prelude.{◌≡◌};
 ghost use Rattle.judge.specs.Codes.{number};
 
+// Each case stands for its service number.
 #[derive(Clone, Copy, PartialEq, Eq, Debug)]
 pub enum Refusal {
     // A line of the log has a mark that is not known.
-    Unknown,
+    Unknown = 41,
     // A time is before that of the line before it.
-    Backward,
+    Backward = 42,
     // The log is too long to be held.
-    Long,
+    Long = 61,
     // There is no such formula on the sheet.
-    NoFormula,
+    NoFormula = 62,
     // There is no such place in the log.
-    NoPlace,
+    NoPlace = 63,
 }
 
-impl Refusal {
-    // The service number.
-    pub fn code(self) -> u8
-        ensures { result ≡ number self }
-    {
-        match self {
-            Refusal::Unknown => 41,
-            Refusal::Backward => 42,
-            Refusal::Long => 61,
-            Refusal::NoFormula => 62,
-            Refusal::NoPlace => 63,
-        }
+impl From<Refusal> for u8 {
+    ghost from_gives = { λ refusal code. code ≡ number refusal };
+
+    fn from(refusal: Refusal) -> u8 {
+        refusal as u8
     }
 }

@@ -1,10 +1,11 @@
 // What is checked of a held log before it is judged.
 ghost use Rattle.std.specs.Prelude.{◌≡◌};
+ghost use Rattle.std.specs.Result.{result_err};
 ghost use Rattle.judge.specs.Refused as refused;
 
 use crate::Refusal;
+use crate::held::Held;
 use line::Line;
-use sheet::Formula;
 
 // The longest log that is held, in lines.
 const LONGEST: usize = 1_024;
@@ -12,43 +13,35 @@ const LONGEST: usize = 1_024;
 fn any_unknown(log: &[Line]) -> bool
     ensures { result ≡ refused.any_unknown log.now }
 {
-    for line in log {
-        if line.has_unknown() {
-            return true;
-        }
-    }
-    false
+    log.iter().any(|line| line.has_unknown())
 }
 
 fn falls(log: &[Line]) -> bool
     ensures { result ≡ refused.falls log.now }
 {
-    for i in 1..log.len() {
-        if log[i].time < log[i - 1].time {
-            return true;
-        }
-    }
-    false
+    !log.is_sorted_by(|line, next| line.time <= next.time)
 }
 
-// Why a formula is not judged at a place of a log.
-pub(crate) fn refusal(formulas: &[Formula], log: &[Line], n: usize, place: usize) -> Option<Refusal>
-    ensures { result ≡ refused.refusal formulas.now log.now n place }
-{
-    if any_unknown(log) {
-        return Some(Refusal::Unknown);
+impl Held<'_> {
+    // Tells why a formula is not judged at a place, if it is not.
+    pub(crate) fn check(&self, n: usize, place: usize) -> Result<(), Refusal>
+        ensures { result_err result ≡ refused.refusal self.now.formulas.now self.now.log.now n place }
+    {
+        if any_unknown(self.log) {
+            return Err(Refusal::Unknown);
+        }
+        if falls(self.log) {
+            return Err(Refusal::Backward);
+        }
+        if self.log.len() > LONGEST {
+            return Err(Refusal::Long);
+        }
+        if n >= self.formulas.len() {
+            return Err(Refusal::NoFormula);
+        }
+        if place == 0 || place > self.log.len() {
+            return Err(Refusal::NoPlace);
+        }
+        Ok(())
     }
-    if falls(log) {
-        return Some(Refusal::Backward);
-    }
-    if log.len() > LONGEST {
-        return Some(Refusal::Long);
-    }
-    if n >= formulas.len() {
-        return Some(Refusal::NoFormula);
-    }
-    if place == 0 || place > log.len() {
-        return Some(Refusal::NoPlace);
-    }
-    None
 }

@@ -1,121 +1,98 @@
 // Truth by plain counting: over formulas of smaller number, and places further back.
-ghost use Rattle.std.specs.Prelude.{◌≡◌, ◌-◌, ◌<◌, ◌≤◌, ◌&&◌, length, nat_lt};
-ghost use Rattle.truth.specs.Truth.{at, holds as truth, within};
-ghost use Rattle.judge.specs.Counting.{Judgeable, Kept, since_down, Unreset, count_down};
-ghost use Rattle.judge.specs.Scales.{meaning};
+ghost use Rattle.std.specs.Prelude.{◌≡◌, ◌≤◌};
+ghost use Rattle.judge.specs.Counting.{truth, since_up_to, count_up_to};
 
-use line::Line;
-use scale::Plain;
+use crate::held::Held;
 use sheet::{Formula, Window};
 
-// The seconds from place `h` to place `j`.
-fn gap(log: &[Line], j: usize, h: usize) -> u32
-    requires { (1 ≤ h) × ((h ≤ length log.now) × ((1 ≤ j) × (j ≤ length log.now))) }
-    ensures { result ≡ (at log.now j).time - (at log.now h).time }
-{
-    log[j - 1].time.saturating_sub(log[h - 1].time)
-}
-
-// Whether `j` is not the first place, and the gap to the place before lies in the window.
-fn follows(log: &[Line], window: Window, j: usize) -> bool
-    requires { (1 ≤ j) × (j ≤ length log.now) }
-    ensures { result ≡ (nat_lt 1 j && within log.now window j (j - 1)) }
-{
-    j > 1 && window.contains(gap(log, j, j - 1))
-}
-
-// Whether the formula `n` holds at the place `j`.
-#[cycle(count_holds_since)]
-pub(crate) fn holds(
-    formulas: &[Formula],
-    scales: &[Plain],
-    log: &[Line],
-    n: usize,
-    j: usize,
-) -> bool
-    requires sound { (Judgeable formulas.now log.now) × (length scales.now ≡ 8) }
-    requires within { (n < length formulas.now) × ((1 ≤ j) × (j ≤ length log.now)) }
-    ensures { result ≡ truth (meaning scales.now) formulas.now log.now n j }
-{
-    match formulas[n] {
-        Formula::Never => false,
-        Formula::Mark { mark } => (log[j - 1].marks >> mark) % 2 == 1,
-        Formula::Not { a } => !holds(formulas, scales, log, a as usize, j),
-        Formula::Or { a, b } => {
-            holds(formulas, scales, log, a as usize, j)
-                || holds(formulas, scales, log, b as usize, j)
-        }
-        Formula::Previous { a, window } => {
-            follows(log, window, j) && holds(formulas, scales, log, a as usize, j - 1)
-        }
-        Formula::Since { a, b, window } => since(formulas, scales, log, a, b, window, j, j),
-        Formula::Count {
-            a,
-            b,
-            scale,
-            window,
-        } => { scales[scale as usize].says(count(formulas, scales, log, a, b, window, j, j)) }
-    }
-}
-
-// Whether some place up to `h` makes since true at `j`, where a has held after `h`.
-#[cycle(count_holds_since)]
-fn since(
-    formulas: &[Formula],
-    scales: &[Plain],
-    log: &[Line],
+// What since and count ask: of two formulas, at the places whose gap to a place lies in a window.
+#[derive(Clone, Copy)]
+struct Asked {
     a: u8,
     b: u8,
     window: Window,
-    j: usize,
-    h: usize,
-) -> bool
-    requires sound { (Judgeable formulas.now log.now) × (length scales.now ≡ 8) }
-    requires within { (a < length formulas.now) × ((b < length formulas.now) × ((h ≤ j) × ((1 ≤ j) × (j ≤ length log.now)))) }
-    requires kept { Kept log.now (truth (meaning scales.now) formulas.now log.now a) (truth (meaning scales.now) formulas.now log.now b) window j h }
-    ensures { result ≡ since_down log.now (truth (meaning scales.now) formulas.now log.now a) (truth (meaning scales.now) formulas.now log.now b) window j h }
-{
-    if h == 0 {
-        return false;
-    }
-    if window.contains(gap(log, j, h)) && holds(formulas, scales, log, b as usize, h) {
-        return true;
-    }
-    holds(formulas, scales, log, a as usize, h)
-        && since(formulas, scales, log, a, b, window, j, h - 1)
+    place: usize,
 }
 
-// How many places up to `h` count at `j`, where none after `h` resets the count.
-#[cycle(count_holds_since)]
-fn count(
-    formulas: &[Formula],
-    scales: &[Plain],
-    log: &[Line],
-    a: u8,
-    b: u8,
-    window: Window,
-    j: usize,
-    h: usize,
-) -> u64
-    requires sound { (Judgeable formulas.now log.now) × (length scales.now ≡ 8) }
-    requires within { (a < length formulas.now) × ((b < length formulas.now) × ((h ≤ j) × ((1 ≤ j) × (j ≤ length log.now)))) }
-    requires unreset { Unreset log.now (truth (meaning scales.now) formulas.now log.now a) (truth (meaning scales.now) formulas.now log.now b) window j h }
-    ensures value { result ≡ count_down log.now (truth (meaning scales.now) formulas.now log.now a) (truth (meaning scales.now) formulas.now log.now b) window j h }
-    ensures bound { result ≤ h }
-{
-    if h == 0 {
-        return 0;
+// It is a rule of the project that holds, since and count recurse on the formula's number and the
+// place, and that one measure falls.
+impl Held<'_> {
+    // Whether the formula `n` holds at the place.
+    #[cycle(counting)]
+    #[tactic(auto, using(crate::proofs::Unrolls::unrolls))]
+    pub(crate) fn holds(&self, n: usize, place: usize) -> bool
+        ensures { result ≡ truth self.now n place }
+    {
+        match self.formula(n) {
+            Formula::Never => false,
+            Formula::Mark { mark } => (self.line(place).marks >> mark) % 2 == 1,
+            Formula::Not { a } => !self.holds(usize::from(a), place),
+            Formula::Or { a, b } => {
+                self.holds(usize::from(a), place) || self.holds(usize::from(b), place)
+            }
+            Formula::Previous { a, window } => {
+                place > 1
+                    && self.is_within(window, place, place - 1)
+                    && self.holds(usize::from(a), place - 1)
+            }
+            Formula::Since { a, b, window } => {
+                let asked = Asked {
+                    a,
+                    b,
+                    window,
+                    place,
+                };
+                self.since(asked, place)
+            }
+            Formula::Count {
+                a,
+                b,
+                scale,
+                window,
+            } => {
+                let asked = Asked {
+                    a,
+                    b,
+                    window,
+                    place,
+                };
+                self.says(scale, self.count(asked, place))
+            }
+        }
     }
-    if !window.contains(gap(log, j, h)) {
-        return count(formulas, scales, log, a, b, window, j, h - 1);
+
+    // Whether some place up to `h` lies in the window and has b, and a holds after it up to `h`.
+    #[cycle(counting)]
+    #[tactic(auto, using(crate::proofs::Downs::since_steps))]
+    fn since(&self, asked: Asked, h: usize) -> bool
+        ensures { result ≡ since_up_to self.now asked h }
+    {
+        if h == 0 {
+            return false;
+        }
+        if self.is_within(asked.window, asked.place, h) && self.holds(usize::from(asked.b), h) {
+            return true;
+        }
+        self.holds(usize::from(asked.a), h) && self.since(asked, h - 1)
     }
-    if holds(formulas, scales, log, a as usize, h) {
-        return 0; // nor does the resetting line itself count
-    }
-    let more = count(formulas, scales, log, a, b, window, j, h - 1);
-    if holds(formulas, scales, log, b as usize, h) {
-        more + 1
-    } else {
-        more
+
+    // How many places up to `h` lie in the window and have b, of those after the last up to `h` that
+    // lies in the window and has a.
+    #[cycle(counting)]
+    #[tactic(auto, using(crate::proofs::Downs::count_steps))]
+    fn count(&self, asked: Asked, h: usize) -> u64
+        ensures value { result ≡ count_up_to self.now asked h }
+        ensures bound { result ≤ h }
+    {
+        if h == 0 {
+            return 0;
+        }
+        if !self.is_within(asked.window, asked.place, h) {
+            return self.count(asked, h - 1);
+        }
+        if self.holds(usize::from(asked.a), h) {
+            return 0; // nor does the resetting line itself count
+        }
+        self.count(asked, h - 1) + u64::from(self.holds(usize::from(asked.b), h))
     }
 }

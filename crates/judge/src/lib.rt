@@ -8,13 +8,16 @@ ghost use Rattle.judge.specs.Judged.{judged};
 mod answers;
 mod checks;
 mod counting;
+mod held;
 
 pub use answers::Refusal;
+use held::Held;
 use line::Line;
 use scale::Plain;
 use sheet::Sheet;
 
 // Whether the formula holds at the place, with the scales as the meanings; or why it is not judged.
+#[tactic(auto, unfolding(crate::specs::Counting::truth))]
 pub fn judge(
     sheet: &Sheet,
     scales: &[Plain; 8],
@@ -24,8 +27,11 @@ pub fn judge(
 ) -> Result<bool, Refusal>
     ensures { result ≡ judged (contents.of sheet.now).formulas scales.now log.now formula place }
 {
-    match checks::refusal(sheet.formulas(), log, formula, place) {
-        Some(why) => Err(why),
-        None => Ok(counting::holds(sheet.formulas(), scales, log, formula, place)),
-    }
+    let held = Held {
+        formulas: sheet.formulas(),
+        scales,
+        log,
+    };
+    held.check(formula, place)?;
+    Ok(held.holds(formula, place))
 }

@@ -24,8 +24,7 @@ fn told(heap: std::alloc::Global, log: &[Line], formula: usize, place: usize) ->
         high: 0,
     })?;
     match judge(&sheet, &scales::limits()?, log, formula, place) {
-        Ok(true) => Ok(1),
-        Ok(false) => Ok(0),
-        Err(refusal) => Ok(refusal.code()),
+        Ok(answer) => Ok(u8::from(answer)),
+        Err(refusal) => Ok(u8::from(refusal)),
     }
 }

@@ -1,32 +1,20 @@
 -- What follows a place does not change the truth at it. Assumes nothing.
-use Rattle.std.proofs.Common.{◌≡◌, ℕ, suc, ◌-◌, ◌<◌, ◌≤◌, Bool, false, not, ◌&&◌, ◌||◌, ltb, List, [], ◌∷◌, ◌++◌, length, get_or, sym, refl, ap, ◌∙◌, subst, ap₂, ⊎_elim, arith, length-append}
-use Rattle.std.proofs.lemmas.List.{get_or_append_left, get_or_past, get_or_push}
-use Rattle.std.proofs.lemmas.Bool.{cases_lt, le-ltb}
+use Rattle.std.proofs.Common.{◌≡◌, ℕ, ◌-◌, ◌≤◌, Bool, false, not, ◌&&◌, ◌||◌, ltb, List, ◌++◌, length, get_or, refl, ap, ap₂, arith}
+use Rattle.std.proofs.lemmas.List.{get_or_append_left}
+use Rattle.std.proofs.lemmas.Bool.{ltb-true}
 use Rattle.line.specs.declared.Line.{Line}
 use Rattle.line.specs.Marks.{has}
 use Rattle.sheet.specs.declared.Formula.{Formula}
 use Rattle.sheet.specs.declared.Formula.TheVariants.{Never, Mark, Not, Or, Previous, Since, Count}
 use Rattle.sheet.specs.declared.Window.{Window}
-use Rattle.sheet.specs.Formulas.{built_on}
 use Rattle.sheet.specs.Windows.{inside}
 use Rattle.truth.specs.Laws.{LooksBack}
 use Rattle.truth.specs.Truth.{at, counted, Meanings, previous, reset, since, truth_of, within}
-use Rattle.truth.proofs.Shift.{count_agree, every_agree, last_agree, some_agree}
+use Rattle.truth.proofs.Along.{built_along}
+use Rattle.truth.proofs.Shift.{count_agree, every_agree, last_agree, some_agree, where_so}
 
-abbrev never : ℕ → Bool
+abbrev pub never : ℕ → Bool
 never j = false
-
--- two lists of truths, one longer or not, push by push
-pub get_or_both : {X : Type 0} (xs : List X) (x d : X) (i : ℕ) (P : X → Type 0) → (i < length xs → P (get_or xs i d)) → (i ≡ length xs → P x) → (length xs < i → P d) → P (get_or (xs ++ x ∷ []) i d)
-get_or_both xs x d i P below here past =
-    ⊎_elim
-    (λ lt. subst P (sym (get_or_append_left xs (x ∷ []) d i lt)) (below lt))
-    (λ ge.
-    ⊎_elim
-    (λ lt. let e : length xs ≡ i = omega arith in subst P (sym (get_or_push xs x d i e)) (here (sym e)))
-    (λ gt. subst P (sym (get_or_past (xs ++ x ∷ []) i d (omega (arith, length-append xs (x ∷ []))))) (past (omega arith)))
-    (cases_lt i (suc (length xs))))
-    (cases_lt i (length xs))
 
 module _ (M : Meanings) (log more : List Line) where
   same_line : (j : ℕ) → 1 ≤ j → j ≤ length log → at (log ++ more) j ≡ at log j
@@ -42,10 +30,8 @@ module _ (M : Meanings) (log more : List Line) where
   module _ (a b a' b' : ℕ → Bool) (w : Window) (ha : Alike a a') (hb : Alike b b') where
     previous_back : Alike (previous (log ++ more) a w) (previous log a' w)
     previous_back j lo hi =
-        ⊎_elim
-        (λ first. ap (λ (t : Bool). t && (within (log ++ more) w j (j - 1) && a (j - 1))) (le-ltb 1 j (omega arith)) ∙ sym (ap (λ (t : Bool). t && (within log w j (j - 1) && a' (j - 1))) (le-ltb 1 j (omega arith))))
-        (λ later. λ i. ltb 1 j && (same_within w j (j - 1) (omega arith) (omega arith) hi i && ha (j - 1) (omega arith) (omega arith) i))
-        (cases_lt j 2)
+        where_so (ltb 1 j) _ _
+        (λ t. let later = ltb-true 1 j t in λ i. same_within w j (j - 1) (omega arith) (omega arith) hi i && ha (j - 1) (omega arith) (omega arith) i)
 
     since_back : Alike (since (log ++ more) a b w) (since log a' b' w)
     since_back j lo hi =
@@ -57,9 +43,6 @@ module _ (M : Meanings) (log more : List Line) where
     counted_back : (j : ℕ) → 1 ≤ j → j ≤ length log → counted (log ++ more) a b w j ≡ counted log a' b' w j
     counted_back j lo hi = count_agree j _ _ (λ h l u. λ i. same_within w j h l u hi i && (ltb (reset_back j lo hi i) h && hb h l (omega arith) i))
 
-  AllAlike : List (ℕ → Bool) → List (ℕ → Bool) → Type 0
-  AllAlike ts us = (length ts ≡ length us) × ((i : ℕ) → Alike (get_or ts i never) (get_or us i never))
-
   truth_back : (ts us : List (ℕ → Bool)) → ((i : ℕ) → Alike (get_or ts i never) (get_or us i never)) → (f : Formula) → Alike (truth_of M (log ++ more) ts f) (truth_of M log us f)
   truth_back ts us h Never j lo hi = refl
   truth_back ts us h (Mark m) j lo hi = ap (λ (l : Line). has l.marks m) (same_line j lo hi)
@@ -69,16 +52,8 @@ module _ (M : Meanings) (log more : List Line) where
   truth_back ts us h (Since a b w) j lo hi = since_back (get_or ts a never) (get_or ts b never) (get_or us a never) (get_or us b never) w (h a) (h b) j lo hi
   truth_back ts us h (Count a b s w) j lo hi = ap (M.says s) (counted_back (get_or ts a never) (get_or ts b never) (get_or us a never) (get_or us b never) w (h a) (h b) j lo hi)
 
-  all_back : (fs : List Formula) (ts us : List (ℕ → Bool)) → length ts ≡ length us → ((i : ℕ) → Alike (get_or ts i never) (get_or us i never)) → (i : ℕ) → Alike (get_or (built_on (truth_of M (log ++ more)) ts fs) i never) (get_or (built_on (truth_of M log) us fs) i never)
-  all_back [] ts us long h = h
-  all_back (f ∷ fs) ts us long h =
-      let t = truth_of M (log ++ more) ts f in
-      let u = truth_of M log us f in
-      all_back fs (ts ++ t ∷ []) (us ++ u ∷ []) (omega (arith, length-append ts (t ∷ []), length-append us (u ∷ [])))
-      (λ i. get_or_both ts t never i (λ x. Alike x (get_or (us ++ u ∷ []) i never))
-      (λ lt. get_or_both us u never i (λ y. Alike (get_or ts i never) y) (λ _. h i) (λ e. absurd (omega arith)) (λ gt. absurd (omega arith)))
-      (λ e. get_or_both us u never i (λ y. Alike t y) (λ lt. absurd (omega arith)) (λ _. truth_back ts us h f) (λ gt. absurd (omega arith)))
-      (λ gt. get_or_both us u never i (λ y. Alike never y) (λ lt. absurd (omega arith)) (λ e. absurd (omega arith)) (λ _ j lo hi. refl)))
-
 pub looks_back : LooksBack
-looks_back M fs log more n j lo hi = all_back M log more fs [] [] refl (λ i j lo hi. refl) n j lo hi
+looks_back M fs log more n j lo hi =
+    built_along never never never (λ t u _. Alike M log more t u) (λ j lo hi. refl) (truth_of M (log ++ more)) (truth_of M log) (truth_of M log)
+    (λ ts us _ all f. truth_back M log more ts us all f)
+    fs n j lo hi

@@ -1,23 +1,22 @@
 -- What lies past the reach does not matter. Assumes nothing.
-use Rattle.std.proofs.Common.{◌≡◌, ℕ, zero, suc, ◌+◌, ◌-◌, ◌<◌, ◌≤◌, max, Bool, true, false, not, ◌&&◌, ◌||◌, ltb, leb, List, [], ◌∷◌, ◌++◌, length, get_or, Some, None, Option, sym, refl, ap, ◌∙◌, subst, ap₂, ⊎_elim, arith, length-append}
+use Rattle.std.proofs.Common.{◌≡◌, ℕ, zero, suc, ◌+◌, ◌-◌, ◌<◌, ◌≤◌, max, Bool, true, false, not, ◌&&◌, ◌||◌, ltb, leb, List, ◌++◌, length, get_or, Some, None, Option, sym, refl, ap, ◌∙◌, ap₂, arith, length-append}
 use Rattle.std.proofs.lemmas.List.{get_or-append-add}
 use Rattle.std.proofs.lemmas.Bool.{and_parts, and_right, cases_lt, le-ltb, lt-ltb, ltb-true}
+use Rattle.std.proofs.lemmas.Bool.Decides.{nat_tests}
 use Rattle.line.specs.declared.Line.{Line}
 use Rattle.line.specs.Marks.{has}
 use Rattle.sheet.specs.declared.Formula.{Formula}
 use Rattle.sheet.specs.declared.Formula.TheVariants.{Never, Mark, Not, Or, Previous, Since, Count}
 use Rattle.sheet.specs.declared.Window.{Window}
 use Rattle.sheet.specs.declared.Window.TheVariants.{Closed, Open}
-use Rattle.sheet.specs.Formulas.{beyond, built_on, greater, reach_at, reach_of}
+use Rattle.sheet.specs.Formulas.{beyond, greater, reach_at, reach_of}
 use Rattle.sheet.specs.Windows.{inside}
 use Rattle.truth.specs.Laws.{PastReach}
 use Rattle.truth.specs.Order.{InOrder}
 use Rattle.truth.specs.Truth.{at, blank, counted, Meanings, previous, reset, since, truth_of, within}
-use Rattle.truth.proofs.Back.{get_or_both}
-use Rattle.truth.proofs.Shift.{after_moved, count_agree, count_moved, every_agree, every_moved, last_agree, last_moved, moved, some_agree, some_moved}
-
-abbrev never : ℕ → Bool
-never j = false
+use Rattle.truth.proofs.Along.{built_along}
+use Rattle.truth.proofs.Back.{never}
+use Rattle.truth.proofs.Shift.{after_moved, count_agree, count_moved, every_agree, every_moved, last_agree, last_moved, moved, some_agree, some_moved, where_so}
 
 -- what a reach was made of
 
@@ -29,30 +28,21 @@ record Greater (x y : Option ℕ) (r : ℕ) : Type 0 where
   most : r ≡ max left right
 
 greater_of : (x y : Option ℕ) (r : ℕ) → greater x y ≡ Some r → Greater x y r
-greater_of None y r e = let z : ◌≡◌ {A = ℕ} 0 1 = cc e in absurd (omega arith)
-greater_of (Some x) None r e = let z : ◌≡◌ {A = ℕ} 0 1 = cc e in absurd (omega arith)
+greater_of None y r e = cc e
+greater_of (Some x) None r e = cc e
 greater_of (Some x) (Some y) r e = record { left = x; right = y; is_left = refl; is_right = refl; most = cc e }
 
-record Beyond (w : Window) (x : Option ℕ) (r : ℕ) : Type 0 where
-  low : ℕ
-  high : ℕ
+record Beyond (high : ℕ) (x : Option ℕ) (r : ℕ) : Type 0 where
   below : ℕ
-  closed : w ≡ Closed low high
   is_below : x ≡ Some below
   sum : r ≡ high - 1 + below
 
-beyond_of : (w : Window) (x : Option ℕ) (r : ℕ) → beyond w x ≡ Some r → Beyond w x r
-beyond_of (Closed low high) None r e = let z : ◌≡◌ {A = ℕ} 0 1 = cc e in absurd (omega arith)
-beyond_of (Closed low high) (Some x) r e = record { low = low; high = high; below = x; closed = refl; is_below = refl; sum = cc e }
-beyond_of (Open low) x r e = let z : ◌≡◌ {A = ℕ} 0 1 = cc e in absurd (omega arith)
-
--- a test that matters only where another holds
-where_so : (t x y : Bool) → (t ≡ true → x ≡ y) → (t && x) ≡ (t && y)
-where_so true x y e = e refl
-where_so false x y e = refl
+beyond_of : (low high : ℕ) (x : Option ℕ) (r : ℕ) → beyond (Closed low high) x ≡ Some r → Beyond high x r
+beyond_of low high None r e = cc e
+beyond_of low high (Some x) r e = record { below = x; is_below = refl; sum = cc e }
 
 moved_after : (k m h : ℕ) → 1 ≤ h → ltb (moved k m) (k + h) ≡ ltb m h
-moved_after k zero h lo = lt-ltb 0 (k + h) (omega arith) ∙ sym (lt-ltb 0 h lo)
+moved_after k zero h lo = grind (arith, nat_tests)
 moved_after k (suc m) h lo = after_moved k (suc m) h
 
 module _ (M : Meanings) (front log : List Line) (order : InOrder (front ++ log)) (some-line : 1 ≤ length log) where
@@ -76,11 +66,7 @@ module _ (M : Meanings) (front log : List Line) (order : InOrder (front ++ log))
   Far r j = (at log 1).time + r < (at log j).time
 
   not_first : (j r : ℕ) → 1 ≤ j → Far r j → 1 < j
-  not_first j r one far =
-      ⊎_elim
-      (λ lt. let e : j ≡ 1 = omega arith in absurd (omega (arith, far, ap (λ (n : ℕ). (at log n).time) e)))
-      (λ ge. ge)
-      (cases_lt j 2)
+  not_first j r one far = grind arith
 
   within_there : (w : Window) (j h : ℕ) → 1 ≤ h → 1 ≤ j → within (front ++ log) w (length front + j) (length front + h) ≡ within log w j h
   within_there w j h lo mid = λ i. inside w ((there j mid i).time - (there h lo i).time)
@@ -140,9 +126,6 @@ module _ (M : Meanings) (front log : List Line) (order : InOrder (front ++ log))
   abbrev Agrees : Option ℕ → (ℕ → Bool) → (ℕ → Bool) → Type 0
   Agrees o t u = (r : ℕ) → o ≡ Some r → (j : ℕ) → 1 ≤ j → j ≤ length log → Far r j → t (length front + j) ≡ u j
 
-  AllAgree : List (Option ℕ) → List (ℕ → Bool) → List (ℕ → Bool) → Type 0
-  AllAgree rs ts us = (i : ℕ) → Agrees (reach_at rs i) (get_or ts i never) (get_or us i never)
-
   module _ (rs : List (Option ℕ)) (ts us : List (ℕ → Bool)) (all : (i : ℕ) → Agrees (reach_at rs i) (get_or ts i never) (get_or us i never)) where
     by_both : (a b : ℕ) (r : ℕ) → greater (reach_at rs a) (reach_at rs b) ≡ Some r → ((j : ℕ) → 1 ≤ j → j ≤ length log → Far r j → get_or ts a never (length front + j) ≡ get_or us a never j) × ((j : ℕ) → 1 ≤ j → j ≤ length log → Far r j → get_or ts b never (length front + j) ≡ get_or us b never j)
     by_both a b r e =
@@ -150,25 +133,25 @@ module _ (M : Meanings) (front log : List Line) (order : InOrder (front ++ log))
         (λ j lo hi far. all a g.left g.is_left j lo hi (omega (arith, g.most)), λ j lo hi far. all b g.right g.is_right j lo hi (omega (arith, g.most)))
 
     far_previous : (a : ℕ) (w : Window) → Agrees (beyond w (reach_at rs a)) (previous (front ++ log) (get_or ts a never) w) (previous log (get_or us a never) w)
-    far_previous a w r e j lo hi far =
-        let b = beyond_of w (reach_at rs a) r e in
+    far_previous a (Open low) r e j lo hi far = cc e
+    far_previous a (Closed low high) r e j lo hi far =
+        let b = beyond_of low high (reach_at rs a) r e in
         let h = all a b.below b.is_below in
-        subst (λ (v : Window). previous (front ++ log) (get_or ts a never) v (length front + j) ≡ previous log (get_or us a never) v j) (sym b.closed)
-        (previous_far b.low b.high (get_or ts a never) (get_or ts a never) (get_or us a never) (get_or us a never) b.below h h j lo hi (omega (arith, b.sum)))
+        previous_far low high (get_or ts a never) (get_or ts a never) (get_or us a never) (get_or us a never) b.below h h j lo hi (omega (arith, b.sum))
 
     far_since : (a c : ℕ) (w : Window) → Agrees (beyond w (greater (reach_at rs a) (reach_at rs c))) (since (front ++ log) (get_or ts a never) (get_or ts c never) w) (since log (get_or us a never) (get_or us c never) w)
-    far_since a c w r e j lo hi far =
-        let b = beyond_of w (greater (reach_at rs a) (reach_at rs c)) r e in
+    far_since a c (Open low) r e j lo hi far = cc e
+    far_since a c (Closed low high) r e j lo hi far =
+        let b = beyond_of low high (greater (reach_at rs a) (reach_at rs c)) r e in
         let h = by_both a c b.below b.is_below in
-        subst (λ (v : Window). since (front ++ log) (get_or ts a never) (get_or ts c never) v (length front + j) ≡ since log (get_or us a never) (get_or us c never) v j) (sym b.closed)
-        (since_far b.low b.high (get_or ts a never) (get_or ts c never) (get_or us a never) (get_or us c never) b.below h.0 h.1 j lo hi (omega (arith, b.sum)))
+        since_far low high (get_or ts a never) (get_or ts c never) (get_or us a never) (get_or us c never) b.below h.0 h.1 j lo hi (omega (arith, b.sum))
 
     far_count : (a c s : ℕ) (w : Window) → Agrees (beyond w (greater (reach_at rs a) (reach_at rs c))) (λ j. M.says s (counted (front ++ log) (get_or ts a never) (get_or ts c never) w j)) (λ j. M.says s (counted log (get_or us a never) (get_or us c never) w j))
-    far_count a c s w r e j lo hi far =
-        let b = beyond_of w (greater (reach_at rs a) (reach_at rs c)) r e in
+    far_count a c s (Open low) r e j lo hi far = cc e
+    far_count a c s (Closed low high) r e j lo hi far =
+        let b = beyond_of low high (greater (reach_at rs a) (reach_at rs c)) r e in
         let h = by_both a c b.below b.is_below in
-        subst (λ (v : Window). M.says s (counted (front ++ log) (get_or ts a never) (get_or ts c never) v (length front + j)) ≡ M.says s (counted log (get_or us a never) (get_or us c never) v j)) (sym b.closed)
-        (ap (M.says s) (counted_far b.low b.high (get_or ts a never) (get_or ts c never) (get_or us a never) (get_or us c never) b.below h.0 h.1 j lo hi (omega (arith, b.sum))))
+        ap (M.says s) (counted_far low high (get_or ts a never) (get_or ts c never) (get_or us a never) (get_or us c never) b.below h.0 h.1 j lo hi (omega (arith, b.sum)))
 
     truth_far : (f : Formula) → Agrees (reach_of rs f) (truth_of M (front ++ log) ts f) (truth_of M log us f)
     truth_far Never r e j lo hi far = refl
@@ -179,20 +162,8 @@ module _ (M : Meanings) (front log : List Line) (order : InOrder (front ++ log))
     truth_far (Since a b w) r e j lo hi far = far_since a b w r e j lo hi far
     truth_far (Count a b s w) r e j lo hi far = far_count a b s w r e j lo hi far
 
-  all_far : (fs : List Formula) (rs : List (Option ℕ)) (ts us : List (ℕ → Bool)) → length rs ≡ length us → length ts ≡ length us → ((i : ℕ) → Agrees (reach_at rs i) (get_or ts i never) (get_or us i never)) → (i : ℕ) → Agrees (reach_at (built_on reach_of rs fs) i) (get_or (built_on (truth_of M (front ++ log)) ts fs) i never) (get_or (built_on (truth_of M log) us fs) i never)
-  all_far [] rs ts us longR longT h = h
-  all_far (f ∷ fs) rs ts us longR longT h =
-      let r = reach_of rs f in
-      let t = truth_of M (front ++ log) ts f in
-      let u = truth_of M log us f in
-      all_far fs (rs ++ r ∷ []) (ts ++ t ∷ []) (us ++ u ∷ [])
-      (omega (arith, length-append rs (r ∷ []), length-append us (u ∷ [])))
-      (omega (arith, length-append ts (t ∷ []), length-append us (u ∷ [])))
-      (λ i. get_or_both rs r None i (λ o. Agrees o (get_or (ts ++ t ∷ []) i never) (get_or (us ++ u ∷ []) i never))
-      (λ lt. get_or_both ts t never i (λ x. Agrees (reach_at rs i) x (get_or (us ++ u ∷ []) i never)) (λ _. get_or_both us u never i (λ y. Agrees (reach_at rs i) (get_or ts i never) y) (λ _. h i) (λ e. absurd (omega arith)) (λ gt. absurd (omega arith))) (λ e. absurd (omega arith)) (λ gt. absurd (omega arith)))
-      (λ e. get_or_both ts t never i (λ x. Agrees r x (get_or (us ++ u ∷ []) i never)) (λ lt. absurd (omega arith)) (λ _. get_or_both us u never i (λ y. Agrees r t y) (λ lt. absurd (omega arith)) (λ _. truth_far rs ts us h f) (λ gt. absurd (omega arith))) (λ gt. absurd (omega arith)))
-      (λ gt. λ s e. let z : ◌≡◌ {A = ℕ} 0 1 = cc e in absurd (omega arith)))
-
 pub past_reach : PastReach
 past_reach M fs front log n r e order some-line far =
-    all_far M front log order some-line fs [] [] [] refl refl (λ i s none. let z : ◌≡◌ {A = ℕ} 0 1 = cc none in absurd (omega arith)) n r e (length log) some-line (omega arith) far
+    built_along None never never (Agrees M front log order some-line) (λ r none. cc none) reach_of (truth_of M (front ++ log)) (truth_of M log)
+    (λ rs ts us all f. truth_far M front log order some-line rs ts us all f)
+    fs n r e (length log) some-line (omega arith) far

@@ -1,3 +1,4 @@
+pub mod Along
 pub mod Back
 pub mod Far
 pub mod Shift

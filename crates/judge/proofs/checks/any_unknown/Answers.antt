@@ -1,11 +1,15 @@
-use Rattle.judge.proofs.Walks.{unknown_here, unknown_none, unknown_on}
+use Rattle.std.proofs.Common.{◌||◌, refl, ◌∙◌, rules, tests}
+use Rattle.std.specs.List.{list_any}
+use Rattle.std.proofs.lemmas.Iterator.{YieldsList-from_slice}
+use Rattle.std.proofs.lemmas.Iterator.Search.{any_from_yields_List}
+use Rattle.std.proofs.lemmas.List.Recursion.{same_from_clauses}
+use Rattle.line.specs.declared.Line.{Line}
+use Rattle.line.specs.Marks.{unknown}
+use Rattle.judge.specs.Refused.{any_unknown}
 use Rattle.judge.proofs.checks.any_unknown.Goals as goal
 
-pub returns-then-has_unknown : goal.returns-then-has_unknown
-returns-then-has_unknown c = unknown_here c.args.log.now c.loop-line.line-index c.loop-line-test.true c.loop-line.invariant c.if-has_unknown.ensures
-
-pub loop-line-preserved : goal.loop-line-preserved
-loop-line-preserved c = unknown_on c.args.log.now c.loop-line.line-index c.loop-line-test.true c.loop-line.invariant c.if-has_unknown.ensures
-
 pub returns : goal.returns
-returns c = unknown_none c.args.log.now c.loop-line.line-index c.loop-line-test.false c.loop-line.invariant
+returns c =
+    let test = λ (l : Line). unknown l.marks in
+    any_from_yields_List test _ _ _ c.any.ensures.ran (YieldsList-from_slice c.args.log.now cc) (λ x b q k. search (rules, tests))
+    ∙ same_from_clauses (list_any test) any_unknown (λ l t. test l || t) refl (λ _ _. refl) (λ _ _. refl) c.args.log.now

@@ -1,11 +1,7 @@
-use Rattle.judge.proofs.Walks.{falls_here, falls_none, falls_on}
+use Rattle.std.proofs.Common.{rules}
+use Rattle.std.proofs.lemmas.List.Sorted.{answers_always}
+use Rattle.judge.proofs.Falls.{falls_unless, no_later}
 use Rattle.judge.proofs.checks.falls.Goals as goal
 
-pub returns-then-log-i : goal.returns-then-log-i
-returns-then-log-i c = falls_here c.args.log.now c.loop-i.i c.loop-i.auto.i c.loop-i-test.true c.loop-i.invariant c.if-log-i.true
-
-pub loop-i-preserved : goal.loop-i-preserved
-loop-i-preserved c = falls_on c.args.log.now c.loop-i.i c.loop-i.auto.i c.loop-i-test.true c.loop-i.invariant c.if-log-i.false
-
 pub returns : goal.returns
-returns c = falls_none c.args.log.now c.loop-i.i c.loop-i-test.false c.loop-i.invariant
+returns c = falls_unless c.args.log.now c.is_sorted_by.result (c.is_sorted_by.ensures.cases no_later (answers_always _ _ _ (λ f a r g h. search rules)))
