@@ -3,7 +3,7 @@ use Rattle.std.specs.Prelude.{ℕ, ◌+◌, ◌-◌, max, cond, ◌||◌, List, 
 use Rattle.std.specs.Option.{unwrap_or}
 use Rattle.sheet.specs.declared.formulas.Fields.{Fields}
 use Rattle.sheet.specs.declared.formulas.Formula.{Formula}
-use Rattle.sheet.specs.declared.formulas.Used.{Used}
+use Rattle.sheet.specs.declared.kinds.Used.{Used}
 use Rattle.sheet.specs.declared.formulas.Formula.TheVariants.{Never, Mark, Not, Or, Previous, Since, Count}
 use Rattle.sheet.specs.declared.windows.Window.{Window}
 use Rattle.sheet.specs.declared.windows.Window.TheVariants.{Closed, Open}

@@ -3,6 +3,7 @@
 
 pub mod answers;
 mod formulas;
+mod kinds;
 mod limits;
 mod refused;
 mod sheets;

@@ -22,5 +22,7 @@ pub struct Sheet {
     ghost lawful: { Conditions server formulas.items rules.items },
     ghost reaching: { reaches.items ≡ reaches_of formulas.items },
     ghost costing: { cells ≡ total formulas.items },
-    ghost room: { (64 ≤ vec_capacity formulas) × (64 ≤ vec_capacity reaches) × (8 ≤ vec_capacity rules) },
+    ghost formulas_room: { 64 ≤ vec_capacity formulas },
+    ghost reaches_room: { 64 ≤ vec_capacity reaches },
+    ghost rules_room: { 8 ≤ vec_capacity rules },
 }

@@ -46,7 +46,7 @@ fn fields_at(bytes: &[u8], at: usize) -> Fields
 fn formula_bytes(formula: Formula) -> [u8; 8]
     ensures { result ≡ layout.formula_bytes formula }
 {
-    let f = formula.fields();
+    let f = Fields::from(formula);
     let [l0, l1] = f.low.to_be_bytes();
     let [h0, h1] = f.high.to_be_bytes();
     [f.kind, f.a, f.b, f.scale, l0, l1, h0, h1]

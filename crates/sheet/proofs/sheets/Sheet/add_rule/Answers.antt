@@ -10,4 +10,4 @@ invariant_of-self c =
     let s = c.args.self.now in
     let none = told_no_rule server (of s) c.args.n (omega (arith, c.len.ensures ∙ s.rules.ok.0)) (omega (arith, c.len-2.ensures ∙ s.formulas.ok.0)) in
     let lawful = subst (λ (rs : List ℕ). Conditions server (vec_items s.formulas) rs) (sym c.push_reserved.ensures.items) (with_rule_lem server (of s) s.lawful c.args.n none) in
-    record { lawful = lawful; reaching = s.reaching; costing = s.costing; room = (s.room.0, s.room.1, omega (arith, c.push_reserved.ensures.capacity, s.room)) }
+    record { lawful = lawful; reaching = s.reaching; costing = s.costing; formulas_room = s.formulas_room; reaches_room = s.reaches_room; rules_room = omega (arith, c.push_reserved.ensures.capacity) }
