@@ -4,7 +4,7 @@ use Rattle.std.proofs.lemmas.List.{get_or_append_left, get_or_push, length_push}
 use Rattle.std.proofs.lemmas.Bool.{and_from, and_parts, cases_lt, eqb-true, leb-false, le-leb, lt-ltb, ltb-false, not-false, or_parts, true≢false}
 use Rattle.sheet.specs.declared.answers.Refusal.{Refusal}
 use Rattle.sheet.specs.declared.answers.Refusal.TheVariants.{Full, Kind, Spare, Mark as NoMark, Forward, Window as NoWindow, Scale, Cells}
-use Rattle.sheet.specs.declared.formulas.Fields.{Fields}
+use Rattle.sheet.specs.declared.fields.Fields.{Fields}
 use Rattle.sheet.specs.declared.formulas.Formula.{Formula}
 use Rattle.sheet.specs.declared.formulas.Formula.TheVariants.{Never}
 use Rattle.sheet.specs.declared.limits.Limits.{Limits}

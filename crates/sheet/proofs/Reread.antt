@@ -5,7 +5,7 @@ use Rattle.std.proofs.lemmas.List.{drop_at, get_or-append-add, take_at}
 use Rattle.std.proofs.lemmas.Bool.{and_from, and_parts, cond-false, cond-true, eq-eqb, le-leb, le-ltb, leb-true, lt-leb, ltb-true, or_from}
 use Rattle.sheet.specs.declared.answers.ReadRefusal.{ReadRefusal}
 use Rattle.sheet.specs.declared.answers.Refusal.TheVariants.{Forward, Window as NoWindow, Scale}
-use Rattle.sheet.specs.declared.formulas.Fields.{Fields}
+use Rattle.sheet.specs.declared.fields.Fields.{Fields}
 use Rattle.sheet.specs.declared.formulas.Formula.{Formula}
 use Rattle.sheet.specs.declared.formulas.Formula.TheVariants.{Never, Mark, Not, Or, Previous, Since, Count}
 use Rattle.sheet.specs.declared.limits.Limits.{Limits}
@@ -13,13 +13,13 @@ use Rattle.sheet.specs.declared.windows.Window.{Window}
 use Rattle.sheet.specs.declared.windows.Window.TheVariants.{Closed, Open}
 use Rattle.sheet.specs.Bytes.{add_formulas, add_rules, bytes_of, counts, field_bytes, fields_at, fields_from, formula_bytes, reading, then_read, trailer}
 use Rattle.sheet.specs.Conditions.{Conditions, lawful_at, server}
-use Rattle.sheet.specs.Contents.{Contents, empty, with_formula}
+use Rattle.sheet.specs.Contents.{Contents, empty, with_formula, with_rule}
 use Rattle.sheet.specs.Formulas.{cells_of, fields_of, formula_of, total}
-use Rattle.sheet.specs.Refused.{fault}
+use Rattle.sheet.specs.Refused.{fault, refusal, rule_refusal}
 use Rattle.sheet.specs.Windows.{lawful_window, raw_high, raw_low, window_of}
 use Rattle.sheet.proofs.Built.{total-push}
 use Rattle.sheet.proofs.Grows.{told_no_rule, told_none}
-use Rattle.sheet.proofs.Receives.{formula_on, rule_on}
+use Rattle.sheet.proofs.Receives.{each_on}
 
 -- a lawful window comes back from its fields
 
@@ -85,7 +85,7 @@ take_formulas limits (f ∷ fs) p done lawful room cells =
     let back = formula_back (length done) f first in
     let free = sym (told_none limits c (fields_of f) (omega arith) (sym (faultless_back (length done) f first)) (subst (λ (g : Formula). total done + cells_of g ≤ limits.cells) (sym back) (omega arith))) in
     let long = length-append done (f ∷ []) in
-    formula_on limits p c (fields_of f) (map fields_of fs) free
+    each_on (refusal limits) (λ d g. with_formula d (formula_of g)) p c (fields_of f) (map fields_of fs) free
     ∙ ap (λ (g : Formula). add_formulas limits (suc p) (with_formula c g) (map fields_of fs)) back
     ∙ take_formulas limits fs (suc p) (done ++ f ∷ [])
     (λ i lt. let e : length done + suc i ≡ length (done ++ f ∷ []) + i = omega (arith, long) in subst (λ (n : ℕ). lawful_at n (get_or fs i Never) ≡ true) e (lawful (suc i) (omega arith)))
@@ -99,7 +99,7 @@ take_rules limits fs [] p done named room = ap (λ (rs : List ℕ). Ok (record {
 take_rules limits fs (n ∷ ns) p done named room =
     let c : Contents = record { formulas = fs; rules = done } in
     let long = length-append done (n ∷ []) in
-    rule_on limits p c n ns (told_no_rule limits c n (omega arith) (named 0 (omega arith)))
+    each_on (rule_refusal limits) with_rule p c n ns (told_no_rule limits c n (omega arith) (named 0 (omega arith)))
     ∙ take_rules limits fs ns (suc p) (done ++ n ∷ []) (λ i lt. named (suc i) (omega arith)) (omega (arith, long))
     ∙ ap (λ (rs : List ℕ). Ok (record { formulas = fs; rules = rs })) (append_assoc done (n ∷ []) ns)
 

@@ -7,14 +7,14 @@ use Rattle.std.proofs.lemmas.Bool.{eqb-true, not-false, or_parts}
 use Rattle.sheet.specs.declared.answers.ReadRefusal.{ReadRefusal}
 use Rattle.sheet.specs.declared.answers.ReadRefusal.TheVariants.{Length, Trailer}
 use Rattle.sheet.specs.declared.answers.Refusal.{Refusal}
-use Rattle.sheet.specs.declared.formulas.Fields.{Fields}
+use Rattle.sheet.specs.declared.fields.Fields.{Fields}
 use Rattle.sheet.specs.declared.limits.Limits.{Limits}
 use Rattle.sheet.specs.Bytes.{add_formulas, add_rules, bad_length, bad_trailer, bytes_of, counts, field_bytes, fields_at, fields_from, formula_bytes, formulas_in, pair, place_in, reading, rules_in, then_read, trailer}
 use Rattle.sheet.specs.Contents.{Contents, empty, with_formula, with_rule}
 use Rattle.sheet.specs.Formulas.{fields_of, formula_of}
 use Rattle.sheet.specs.Refused.{refusal, rule_refusal}
 use Rattle.sheet.proofs.Accepts.{fields_back, taken}
-use Rattle.sheet.proofs.Receives.{formula_on, formula_stops, rule_on, rule_stops}
+use Rattle.sheet.proofs.Receives.{each_on, each_stops}
 
 no_err : {X : Type 0} (e : ReadRefusal) (x : X) → Err e ≡ Ok x → ⊥
 no_err e x h = let z : ◌≡◌ {A = ℕ} 0 1 = cc h in omega arith
@@ -35,13 +35,13 @@ brings limits (f ∷ fs) p c d e = go (λ q x. brings limits fs q x d) (refusal 
   where
     go : ((q : ℕ) (x : Contents) → add_formulas limits q x fs ≡ Ok d → Brings x fs d) → (o : Option Refusal) → refusal limits c f ≡ o → Brings c (f ∷ fs) d
     go more None is =
-        let rest = more (suc p) (with_formula c (formula_of f)) (sym (formula_on limits p c f fs is) ∙ e) in
+        let rest = more (suc p) (with_formula c (formula_of f)) (sym (each_on (refusal limits) (λ d g. with_formula d (formula_of g)) p c f fs is) ∙ e) in
         record {
           formulas = rest.formulas ∙ append_assoc c.formulas (formula_of f ∷ []) (map formula_of fs);
           rules = rest.rules;
           back = (fields_back (length c.formulas) f (taken limits c f is).faultless_there, rest.back);
         }
-    go more (Some r) is = absurd (no_err _ d (sym (formula_stops limits p c f fs r is) ∙ e))
+    go more (Some r) is = absurd (no_err _ d (sym (each_stops (refusal limits) (λ d g. with_formula d (formula_of g)) p c f fs r is) ∙ e))
 
 brings_rules : (limits : Limits) (ns : List ℕ) (p : ℕ) (c d : Contents) → add_rules limits p c ns ≡ Ok d → (d.formulas ≡ c.formulas) × (d.rules ≡ c.rules ++ ns)
 unfolding add_rules
@@ -52,9 +52,9 @@ brings_rules limits (n ∷ ns) p c d e = go (λ q x. brings_rules limits ns q x 
   where
     go : ((q : ℕ) (x : Contents) → add_rules limits q x ns ≡ Ok d → (d.formulas ≡ x.formulas) × (d.rules ≡ x.rules ++ ns)) → (o : Option Refusal) → rule_refusal limits c n ≡ o → (d.formulas ≡ c.formulas) × (d.rules ≡ c.rules ++ n ∷ ns)
     go more None is =
-        let rest = more (suc p) (with_rule c n) (sym (rule_on limits p c n ns is) ∙ e) in
+        let rest = more (suc p) (with_rule c n) (sym (each_on (rule_refusal limits) with_rule p c n ns is) ∙ e) in
         (rest.0, rest.1 ∙ append_assoc c.rules (n ∷ []) ns)
-    go more (Some r) is = absurd (no_err _ d (sym (rule_stops limits p c n ns r is) ∙ e))
+    go more (Some r) is = absurd (no_err _ d (sym (each_stops (rule_refusal limits) with_rule p c n ns r is) ∙ e))
 
 same_bytes : (fs : List Fields) → AllByRecursion (λ f. fields_of (formula_of f) ≡ f) fs → flat_map formula_bytes (map formula_of fs) ≡ flat_map field_bytes fs
 same_bytes [] h = refl
@@ -62,13 +62,13 @@ same_bytes (f ∷ fs) h = λ i. field_bytes (h.0 i) ++ same_bytes fs h.1 i
 
 -- the numbers of the trailer
 
-record Sized (bs : List ℕ) (n m : ℕ) : Type 0 where
+pub record Sized (bs : List ℕ) (n m : ℕ) : Type 0 where
   formulas : formulas_in bs ≡ n
   rules : rules_in bs ≡ m
-  long : length bs ≡ 8 * n + m + 4
+  pub long : length bs ≡ 8 * n + m + 4
   place : place_in bs ≡ 8 * n
 
-sized : (bs : List ℕ) (n m : ℕ) → counts bs ≡ Ok (n, m) → Sized bs n m
+pub sized : (bs : List ℕ) (n m : ℕ) → counts bs ≡ Ok (n, m) → Sized bs n m
 sized bs n m = go (bad_length bs) (bad_trailer bs) refl refl
   where
     go : (x y : Bool) → bad_length bs ≡ x → bad_trailer bs ≡ y → cond {A = Result (ℕ × ℕ) ReadRefusal} x (Err Length) (cond y (Err Trailer) (Ok (formulas_in bs, rules_in bs))) ≡ Ok (n, m) → Sized bs n m

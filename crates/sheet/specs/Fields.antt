@@ -2,7 +2,7 @@
 use Rattle.std.specs.Prelude.{◌≡◌, ℕ, ◌<◌, MatchResult, Result}
 use Rattle.sheet.specs.declared.answers.Refusal.{Refusal}
 use Rattle.sheet.specs.declared.answers.Refusal.TheVariants.{Kind as NoKind}
-use Rattle.sheet.specs.declared.formulas.Fields.{Fields}
+use Rattle.sheet.specs.declared.fields.Fields.{Fields}
 use Rattle.sheet.specs.declared.kinds.Kind.{Kind}
 use Rattle.sheet.specs.declared.kinds.Kind.TheVariants.{Never, Mark, Not, Or, Previous, Since, Count}
 use Rattle.sheet.specs.declared.windows.Window.{Window}

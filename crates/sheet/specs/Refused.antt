@@ -3,7 +3,7 @@
 use Rattle.std.specs.Prelude.{ℕ, ◌+◌, Bool, cond, not, ◌&&◌, ◌||◌, length, is_some, Some, None, Ok, Err, Option, Result, ◌==◌, nat_le, nat_lt}
 use Rattle.sheet.specs.declared.answers.Refusal.{Refusal}
 use Rattle.sheet.specs.declared.answers.Refusal.TheVariants.{Full, Kind, Spare, Mark, Forward, Window, Scale, Cells}
-use Rattle.sheet.specs.declared.formulas.Fields.{Fields}
+use Rattle.sheet.specs.declared.fields.Fields.{Fields}
 use Rattle.sheet.specs.declared.limits.Limits.{Limits}
 use Rattle.sheet.specs.Contents.{Contents}
 use Rattle.sheet.specs.Formulas.{used, formula_of, cells_of, total}

@@ -2,6 +2,7 @@
 #![tactic(auto)]
 
 pub mod answers;
+mod fields;
 mod formulas;
 mod kinds;
 mod limits;
@@ -10,7 +11,8 @@ mod sheets;
 mod windows;
 
 pub use answers::{ReadRefusal, Refusal, WriteRefusal};
-pub use formulas::{Fields, Formula};
+pub use fields::Fields;
+pub use formulas::Formula;
 pub use limits::{Limits, SERVER};
 pub use sheets::Sheet;
 pub use windows::Window;

@@ -7,7 +7,8 @@ ghost use Rattle.sheet.specs.Refused as refused;
 ghost use Rattle.sheet.specs.Windows.{window_of};
 
 use crate::answers::Refusal;
-use crate::formulas::{Fields, Formula};
+use crate::fields::Fields;
+use crate::formulas::Formula;
 use crate::kinds::{Kind, Used};
 use crate::windows::Window;
 

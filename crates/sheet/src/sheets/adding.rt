@@ -7,7 +7,8 @@ ghost use Rattle.sheet.specs.Refused as refused;
 
 use super::Sheet;
 use crate::answers::Refusal;
-use crate::formulas::{Fields, Formula};
+use crate::fields::Fields;
+use crate::formulas::Formula;
 use crate::limits::SERVER;
 use crate::refused::formula;
 use std::alloc::{AllocError, Global};
