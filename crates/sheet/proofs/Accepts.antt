@@ -20,12 +20,12 @@ use Rattle.sheet.proofs.Built.{total-push}
 -- a reason that is not told does not hold
 
 passed : (t : Bool) (r : Refusal) (o : Option Refusal) → cond t (Some r) o ≡ None → (t ≡ false) × (o ≡ None)
-passed true r o e = let z : ◌≡◌ {A = ℕ} 0 1 = cc e in absurd (omega arith)
+passed true r o e = absurd (cc e)
 passed false r o e = (refl, e)
 
 both_passed : (x y : Option Refusal) → or_else x y ≡ None → (x ≡ None) × (y ≡ None)
 both_passed None y e = (refl, e)
-both_passed (Some r) y e = let z : ◌≡◌ {A = ℕ} 0 1 = cc e in absurd (omega arith)
+both_passed (Some r) y e = absurd (cc e)
 
 -- fields that are faultless behind n formulas
 record Faultless (n : ℕ) (f : Fields) : Type 0 where

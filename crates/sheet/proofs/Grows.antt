@@ -15,20 +15,20 @@ use Rattle.sheet.proofs.Built.{built-push, total-push}
 
 pub unless_ok : {X : Type 0} (o : Option Refusal) (x y : X) → Ok y ≡ unless o x → (o ≡ None) × (y ≡ x)
 unless_ok None x y e = let same : y ≡ x = cc e in (refl, same)
-unless_ok (Some r) x y e = let z : ◌≡◌ {A = ℕ} 0 1 = cc e in absurd (omega arith)
+unless_ok (Some r) x y e = absurd (cc e)
 
 pub unless_err : {X : Type 0} (o : Option Refusal) (x : X) (r : Refusal) → Err r ≡ unless o x → o ≡ Some r
-unless_err None x r e = let z : ◌≡◌ {A = ℕ} 0 1 = cc e in absurd (omega arith)
+unless_err None x r e = absurd (cc e)
 unless_err (Some q) x r e = let same : r ≡ q = cc e in ap Some (sym same)
 
 -- what that says of an item that is added
 
 pub added_so : (o : Option Refusal) (before with after : Contents) → o ≡ None → after ≡ with → Added o (Ok tt) before with after
 added_so None before with after e is = (refl, is)
-added_so (Some r) before with after e is = let z : ◌≡◌ {A = ℕ} 0 1 = cc e in absurd (omega arith)
+added_so (Some r) before with after e is = absurd (cc e)
 
 pub added_not : (o : Option Refusal) (r : Refusal) (before with : Contents) → o ≡ Some r → Added o (Err r) before with before
-added_not None r before with e = let z : ◌≡◌ {A = ℕ} 0 1 = cc e in absurd (omega arith)
+added_not None r before with e = absurd (cc e)
 added_not (Some q) r before with e = let same : q ≡ r = cc e in (ap Err (sym same), refl)
 
 -- where there is room, what is wrong with fields by themselves comes first, and then what they cost

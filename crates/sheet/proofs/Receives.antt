@@ -16,10 +16,10 @@ use Rattle.sheet.specs.Refused.{refusal, rule_refusal}
 
 pub added_ok : (o : Option Refusal) (before with after : Contents) → Added o (Ok tt) before with after → (o ≡ None) × (after ≡ with)
 added_ok None before with after h = (refl, h.1)
-added_ok (Some e) before with after h = let z : ◌≡◌ {A = ℕ} 0 1 = cc h.0 in absurd (omega arith)
+added_ok (Some e) before with after h = absurd (cc h.0)
 
 pub added_err : (o : Option Refusal) (e : Refusal) (before with after : Contents) → Added o (Err e) before with after → o ≡ Some e
-added_err None e before with after h = let z : ◌≡◌ {A = ℕ} 0 1 = cc h.0 in absurd (omega arith)
+added_err None e before with after h = absurd (cc h.0)
 added_err (Some d) e before with after h = let same : d ≡ e = cc h.0 in ap Some same
 
 -- one item, and a turn of a loop over items
@@ -75,8 +75,8 @@ module _ (limits : Limits) (bs : List ℕ) where
 
 pub brought_is : (all : Result Contents ReadRefusal) (c : Contents) → Brought all (Ok tt) c → all ≡ Ok c
 brought_is (Ok d) c h = ap Ok (sym h.1)
-brought_is (Err e) c h = let z : ◌≡◌ {A = ℕ} 0 1 = cc h in absurd (omega arith)
+brought_is (Err e) c h = absurd (cc h)
 
 pub refused_is : (all : Result Contents ReadRefusal) (e : ReadRefusal) (c : Contents) → Brought all (Err e) c → all ≡ Err e
-refused_is (Ok d) e c h = let z : ◌≡◌ {A = ℕ} 0 1 = cc h.0 in absurd (omega arith)
+refused_is (Ok d) e c h = absurd (cc h.0)
 refused_is (Err d) e c h = sym (let same : e ≡ d = cc h in ap Err same)

@@ -17,7 +17,7 @@ use Rattle.sheet.proofs.Accepts.{fields_back, taken}
 use Rattle.sheet.proofs.Receives.{each_on, each_stops}
 
 no_err : {X : Type 0} (e : ReadRefusal) (x : X) → Err e ≡ Ok x → ⊥
-no_err e x h = let z : ◌≡◌ {A = ℕ} 0 1 = cc h in omega arith
+no_err e x h = cc h
 
 -- the formulas and rules that were added
 

@@ -70,12 +70,12 @@ module _ (bs : List ℕ) where
 
   received_ok : (all : Result Contents ReadRefusal) (r : Result (Unit {0}) ReadRefusal) (after : Contents) → is_err r ≡ false → Brought all r after → Received all r after
   received_ok (Ok c) r after e h = h
-  received_ok (Err x) (Ok u) after e h = let z : ◌≡◌ {A = ℕ} 0 1 = cc h in absurd (omega arith)
+  received_ok (Err x) (Ok u) after e h = absurd (cc h)
   received_ok (Err x) (Err y) after e h = absurd (true≢false e)
 
   received_err : (all : Result Contents ReadRefusal) (r : Result (Unit {0}) ReadRefusal) (mid after : Contents) → is_err r ≡ true → after ≡ empty → Brought all r mid → Received all r after
   received_err (Ok c) (Ok u) mid after e none h = absurd (false≢true e)
-  received_err (Ok c) (Err x) mid after e none h = let z : ◌≡◌ {A = ℕ} 0 1 = cc h.0 in absurd (omega arith)
+  received_err (Ok c) (Err x) mid after e none h = absurd (cc h.0)
   received_err (Err x) r mid after e none h = (h, none)
 
   finds_of : (r : Result (Unit {0}) ReadRefusal) (after : Contents) → Received (reading server bs) r after → (c : Contents) → Conditions server c.formulas c.rules → bytes_of c ≡ bs → (r ≡ Ok tt) × (after ≡ c)

@@ -57,6 +57,7 @@ impl Sheet {
     }
 
     // Takes the number of a formula as the next rule, or tells why not.
+    #[tactic(auto, using(crate::proofs::Grows::told_no_rule, crate::proofs::Accepts::with_rule_lem))]
     pub fn add_rule(&mut self, n: u8) -> Result<(), Refusal>
         ensures { contents.Added (refused.rule_refusal server (contents.of self.old) n) result (contents.of self.old) (contents.with_rule (contents.of self.old) n) (contents.of self.new) }
     {

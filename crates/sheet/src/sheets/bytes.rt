@@ -64,7 +64,8 @@ impl Sheet {
         Ok(())
     }
 
-    // Adds the rules, the first of which is the item at a place, until one is refused.
+    // Adds the rules, the first of which is the item at a place, until one is refused. One loop for both
+    // would need a trait with an impl for formulas and one for rules, longer than the two loops.
     fn add_rules(&mut self, rules: &[u8], first: usize) -> Result<(), ReadRefusal>
         requires first { first < 256 }
         requires few { length rules.now < 256 }
@@ -106,7 +107,8 @@ impl Sheet {
         answer
     }
 
-    // Writes the formulas to the front of a buffer that has room for them.
+    // Writes the formulas to the front of a buffer that has room for them. Each is put at its place, since
+    // of a buffer that was lent in chunks no proof knows what it holds afterwards.
     fn write_formulas(&self, out: &mut [u8])
         requires { 8 * length (contents.of self.now).formulas ≤ length out.old }
         ensures { out.new ≡ flat_map layout.formula_bytes (contents.of self.now).formulas ++ drop (8 * length (contents.of self.now).formulas) out.old }
