@@ -68,9 +68,6 @@ module _ (limits : Limits) (bs : List ℕ) where
   pub reading_counted : (n m : ℕ) → Ok (n, m) ≡ counts bs → reading limits bs ≡ then_read (add_formulas limits 0 empty (fields_from n bs 0)) (λ d. add_rules limits n d (take m (drop (8 * n) bs)))
   reading_counted n m e = ap (λ (k : Result (ℕ × ℕ) ReadRefusal). then_read k (λ nm. then_read (add_formulas limits 0 empty (fields_from nm.0 bs 0)) (λ d. add_rules limits nm.0 d (take nm.1 (drop (8 * nm.0) bs))))) (sym e)
 
-  pub reading_uncounted : (e : ReadRefusal) → Err e ≡ counts bs → reading limits bs ≡ Err e
-  reading_uncounted e is = ap (λ (k : Result (ℕ × ℕ) ReadRefusal). then_read k (λ nm. then_read (add_formulas limits 0 empty (fields_from nm.0 bs 0)) (λ d. add_rules limits nm.0 d (take nm.1 (drop (8 * nm.0) bs))))) (sym is)
-
 -- what was brought, and what that leaves on the sheet
 
 pub brought_is : (all : Result Contents ReadRefusal) (c : Contents) → Brought all (Ok tt) c → all ≡ Ok c

@@ -1,6 +1,7 @@
 -- The bytes of a sheet are read as that sheet. Assumes nothing.
 use Rattle.std.proofs.Common.{◌≡◌, ℕ, suc, ◌+◌, ◌-◌, ◌*◌, ◌/◌, ◌%◌, ◌<◌, ◌≤◌, Bool, true, false, cond, not, ltb, leb, List, [], ◌∷◌, ◌++◌, map, length, get_or, take, drop, is_some, Some, None, Ok, Option, Result, unwrap_or, sym, refl, ap, ◌∙◌, subst, append_assoc, append-nil, add-zero, arith, length-append}
 use Rattle.std.specs.List.{flat_map}
+use Rattle.std.proofs.lemmas.Bool.Decides.{nat_tests}
 use Rattle.std.proofs.lemmas.List.{drop_at, get_or-append-add, take_at}
 use Rattle.std.proofs.lemmas.Bool.{and_from, and_parts, cond-false, cond-true, eq-eqb, le-leb, le-ltb, leb-true, lt-leb, ltb-true, or_from}
 use Rattle.sheet.specs.declared.answers.ReadRefusal.{ReadRefusal}
@@ -34,42 +35,26 @@ module _ (n : ℕ) where
   ahead : (a : ℕ) → ltb a n ≡ true → leb n a ≡ false
   ahead a h = lt-leb n a (ltb-true a n h)
 
-  -- with a window
-  no_fault : (a b s : ℕ) (w : Window) → lawful_window w ≡ true → (fw : Bool) → fw ≡ false → leb s 7 ≡ true → cond fw (Some Forward) (cond (not (is_some (window_of (raw_low w) (raw_high w)))) (Some NoWindow) (cond (ltb 7 s) (Some Scale) None)) ≡ None
-  no_fault a b s w h fw e small =
-      cond-false _ _ _ e ∙ cond-false _ _ _ (ap (λ (o : Option Window). not (is_some o)) (window_back w h)) ∙ cond-false _ _ _ (le-ltb 7 s (leb-true s 7 small))
-
   faultless_back : (f : Formula) → lawful_at n f ≡ true → fault n (fields_of f) ≡ None
   faultless_back Never h = refl
-  faultless_back (Mark m) h = cond-false _ _ _ (le-ltb 25 m (leb-true m 25 h))
-  faultless_back (Not a) h = cond-false _ _ _ (or_from _ _ (ahead a h) refl)
-  faultless_back (Or a b) h = let p = and_parts (ltb a n) _ h in cond-false _ _ _ (or_from _ _ (ahead a p.0) (ahead b p.1))
-  faultless_back (Previous a w) h = let p = and_parts (ltb a n) _ h in no_fault a 0 0 w p.1 _ (or_from _ _ (ahead a p.0) refl) refl
-  faultless_back (Since a b w) h =
-      let p = and_parts (ltb a n) _ h in
-      let q = and_parts (ltb b n) _ p.1 in
-      no_fault a b 0 w q.1 _ (or_from _ _ (ahead a p.0) (ahead b q.0)) refl
-  faultless_back (Count a b s w) h =
-      let p = and_parts (ltb a n) _ h in
-      let q = and_parts (ltb b n) _ p.1 in
-      let r = and_parts (leb s 7) _ q.1 in
-      no_fault a b s w r.1 _ (or_from _ _ (ahead a p.0) (ahead b q.0)) r.0
+  faultless_back (Mark m) h = grind (arith, nat_tests)
+  faultless_back (Not a) h = grind (arith, nat_tests)
+  faultless_back (Or a b) h = grind (arith, nat_tests)
+  faultless_back (Previous a (Closed l u)) h = grind (arith, nat_tests)
+  faultless_back (Previous a (Open l)) h = grind (arith, nat_tests)
+  faultless_back (Since a b (Closed l u)) h = grind (arith, nat_tests)
+  faultless_back (Since a b (Open l)) h = grind (arith, nat_tests)
+  faultless_back (Count a b s (Closed l u)) h = grind (arith, nat_tests)
+  faultless_back (Count a b s (Open l)) h = grind (arith, nat_tests)
 
   formula_back : (f : Formula) → lawful_at n f ≡ true → formula_of (fields_of f) ≡ f
   formula_back Never h = refl
   formula_back (Mark m) h = refl
   formula_back (Not a) h = refl
   formula_back (Or a b) h = refl
-  formula_back (Previous a w) h = let p = and_parts (ltb a n) _ h in ap (λ (o : Option Window). Previous a (unwrap_or o (Open 0))) (window_back w p.1)
-  formula_back (Since a b w) h =
-      let p = and_parts (ltb a n) _ h in
-      let q = and_parts (ltb b n) _ p.1 in
-      ap (λ (o : Option Window). Since a b (unwrap_or o (Open 0))) (window_back w q.1)
-  formula_back (Count a b s w) h =
-      let p = and_parts (ltb a n) _ h in
-      let q = and_parts (ltb b n) _ p.1 in
-      let r = and_parts (leb s 7) _ q.1 in
-      ap (λ (o : Option Window). Count a b s (unwrap_or o (Open 0))) (window_back w r.1)
+  formula_back (Previous a w) h = grind (arith, nat_tests, window_back w)
+  formula_back (Since a b w) h = grind (arith, nat_tests, window_back w)
+  formula_back (Count a b s w) h = grind (arith, nat_tests, window_back w)
 
 -- the formulas of a sheet are taken again, one after another
 

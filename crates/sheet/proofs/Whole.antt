@@ -61,58 +61,37 @@ module _ (bs : List ℕ) (n m : ℕ) (counted : Ok (n, m) ≡ counts bs) (start 
       in
       subst (λ (all : Result Contents ReadRefusal). Brought all r after) (sym is) rules
 
-module _ (bs : List ℕ) where
-  -- the three clauses
-  pub record Reads (r : Result (Unit {0}) ReadRefusal) (after : Contents) : Type 0 where
-    pub value : Received (reading server bs) r after
-    pub back : r ≡ Ok tt → bytes_of after ≡ bs
-    pub finds : (c : Contents) → Conditions server c.formulas c.rules → bytes_of c ≡ bs → (r ≡ Ok tt) × (after ≡ c)
+-- what a reading leaves, where it was refused and where it was not
 
-  received_ok : (all : Result Contents ReadRefusal) (r : Result (Unit {0}) ReadRefusal) (after : Contents) → is_err r ≡ false → Brought all r after → Received all r after
-  received_ok (Ok c) r after e h = h
-  received_ok (Err x) (Ok u) after e h = absurd (cc h)
-  received_ok (Err x) (Err y) after e h = absurd (true≢false e)
+received : (all : Result Contents ReadRefusal) (r : Result (Unit {0}) ReadRefusal) (after : Contents) → Brought all r after → false ≡ is_err r → Received all r after
+received (Ok c) r after h e = h
+received (Err x) (Ok u) after h e = absurd (cc h)
+received (Err x) (Err y) after h e = absurd (cc e)
 
-  received_err : (all : Result Contents ReadRefusal) (r : Result (Unit {0}) ReadRefusal) (mid after : Contents) → is_err r ≡ true → after ≡ empty → Brought all r mid → Received all r after
-  received_err (Ok c) (Ok u) mid after e none h = absurd (false≢true e)
-  received_err (Ok c) (Err x) mid after e none h = absurd (cc h.0)
-  received_err (Err x) r mid after e none h = (h, none)
+emptied : (all : Result Contents ReadRefusal) (r : Result (Unit {0}) ReadRefusal) (mid after : Contents) → Brought all r mid → true ≡ is_err r → after ≡ empty → Received all r after
+emptied (Ok c) (Ok u) mid after h e none = absurd (cc e)
+emptied (Ok c) (Err x) mid after h e none = absurd (cc h.0)
+emptied (Err x) r mid after h e none = (h, none)
 
-  finds_of : (r : Result (Unit {0}) ReadRefusal) (after : Contents) → Received (reading server bs) r after → (c : Contents) → Conditions server c.formulas c.rules → bytes_of c ≡ bs → (r ≡ Ok tt) × (after ≡ c)
-  finds_of r after h c lawful e =
-      subst (λ (all : Result Contents ReadRefusal). Received all r after) (ap (reading server) (sym e) ∙ reread c lawful) h
+-- the clauses, one by one
 
-  pub read_ok : (r : Result (Unit {0}) ReadRefusal) (after : Contents) → is_err r ≡ false → ((k : ℕ) → get_or bs k 0 < 256) → Brought (reading server bs) r after → Reads r after
-  read_ok r after ok fits h =
-      let value = received_ok (reading server bs) r after ok h in
-      record {
-        value = value;
-        back = λ e. rewritten bs fits server after (brought_is _ after (subst (λ (x : Result (Unit {0}) ReadRefusal). Brought (reading server bs) x after) e h));
-        finds = finds_of r after value;
-      }
+module _ (bs : List ℕ) (r : Result (Unit {0}) ReadRefusal) (after : Contents) where
+  -- the bytes of a sheet are read as that sheet
+  found : Received (reading server bs) r after → (c : Contents) → Conditions server c.formulas c.rules → bytes_of c ≡ bs → (r ≡ Ok tt) × (after ≡ c)
+  found h c lawful e = subst (λ (all : Result Contents ReadRefusal). Received all r after) (ap (reading server) (sym e) ∙ reread c lawful) h
 
-  pub read_err : (r : Result (Unit {0}) ReadRefusal) (mid after : Contents) → is_err r ≡ true → after ≡ empty → Brought (reading server bs) r mid → Reads r after
-  read_err r mid after err none h =
-      let value = received_err (reading server bs) r mid after err none h in
-      record {
-        value = value;
-        back = λ e. absurd (false≢true (ap is_err (sym e) ∙ err));
-        finds = finds_of r after value;
-      }
+  module _ (h : Brought (reading server bs) r after) (ok : false ≡ is_err r) where
+    pub done_value : Received (reading server bs) r after
+    done_value = received (reading server bs) r after h ok
 
--- the clauses, one by one, whatever the test of the answer is called
+    pub done_finds : (c : Contents) → Conditions server c.formulas c.rules → bytes_of c ≡ bs → (r ≡ Ok tt) × (after ≡ c)
+    done_finds = found done_value
+
+    pub done_back : ((k : ℕ) → get_or bs k 0 < 256) → r ≡ Ok tt → bytes_of after ≡ bs
+    done_back fits e = rewritten bs fits server after (brought_is _ after (subst (λ (x : Result (Unit {0}) ReadRefusal). Brought (reading server bs) x after) e h))
 
 pub refused_value : (bs : List ℕ) (r : Result (Unit {0}) ReadRefusal) (mid after : Contents) → Brought (reading server bs) r mid → true ≡ is_err r → after ≡ empty → Received (reading server bs) r after
-refused_value bs r mid after h err none = (read_err bs r mid after (sym err) none h).value
+refused_value bs r mid after = emptied (reading server bs) r mid after
 
 pub refused_finds : (bs : List ℕ) (r : Result (Unit {0}) ReadRefusal) (mid c : Contents) → Brought (reading server bs) r mid → true ≡ is_err r → Conditions server c.formulas c.rules → bytes_of c ≡ bs → ⊥
-refused_finds bs r mid c h err lawful e = absurd (false≢true (ap is_err (sym ((read_err bs r mid empty (sym err) refl h).finds c lawful e).0) ∙ sym err))
-
-pub done_value : (bs : List ℕ) (r : Result (Unit {0}) ReadRefusal) (after : Contents) → Brought (reading server bs) r after → false ≡ is_err r → ((k : ℕ) → get_or bs k 0 < 256) → Received (reading server bs) r after
-done_value bs r after h ok fits = (read_ok bs r after (sym ok) fits h).value
-
-pub done_back : (bs : List ℕ) (r : Result (Unit {0}) ReadRefusal) (after : Contents) → Brought (reading server bs) r after → false ≡ is_err r → ((k : ℕ) → get_or bs k 0 < 256) → r ≡ Ok tt → bytes_of after ≡ bs
-done_back bs r after h ok fits = (read_ok bs r after (sym ok) fits h).back
-
-pub done_finds : (bs : List ℕ) (r : Result (Unit {0}) ReadRefusal) (after c : Contents) → Brought (reading server bs) r after → false ≡ is_err r → ((k : ℕ) → get_or bs k 0 < 256) → Conditions server c.formulas c.rules → bytes_of c ≡ bs → (r ≡ Ok tt) × (after ≡ c)
-done_finds bs r after c h ok fits = (read_ok bs r after (sym ok) fits h).finds c
+refused_finds bs r mid c h err lawful e = cc (err, ap is_err (found bs r empty (refused_value bs r mid empty h err refl) c lawful e).0)

@@ -35,10 +35,6 @@ one_formula fs before i out piece after inv lt is wrote =
     let more : done ++ piece ≡ flat_map formula_bytes (take (i + 1) fs) = ap (λ (l : List ℕ). done ++ l) is ∙ flat_map_more formula_bytes [] (take i fs) (get_or fs i Never) ∙ ap (flat_map formula_bytes) (sym (take_more fs i Never lt)) in
     wrote ∙ ap (λ (l : List ℕ). put_at l (8 * i) piece) inv ∙ put_next done piece before (8 * i) long ∙ λ j. more j ++ drop (size j) before
 
-pub all_formulas : (fs : List Formula) (before : List ℕ) (i : ℕ) (out : List ℕ) → Sofar fs before i out → i ≡ length fs → out ≡ flat_map formula_bytes fs ++ drop (8 * length fs) before
-all_formulas fs before i out inv all =
-    inv ∙ (λ j. flat_map formula_bytes (take (all j) fs) ++ drop (8 * all j) before) ∙ ap (λ (gs : List Formula). flat_map formula_bytes gs ++ drop (8 * length fs) before) (take_all (length fs) fs (omega arith))
-
 -- as a contract says it
 
 at_true : (b : Bool) (P Q : Type 0) → b ≡ true → P → MatchBool b P Q
