@@ -1,6 +1,7 @@
 pub mod Accepts
 pub mod Built
 pub mod Grows
+pub mod Lawful
 pub mod Near
 pub mod Receives
 pub mod Reread

@@ -1,16 +1,13 @@
 -- Reading, item by item. Assumes nothing.
-use Rattle.std.proofs.Common.{◌≡◌, ℕ, suc, ◌+◌, ◌-◌, ◌*◌, ◌<◌, ◌≤◌, List, ◌∷◌, length, get_or, take, drop, Some, None, Ok, Err, Option, Result, sym, refl, ap, ◌∙◌, subst, arith}
+use Rattle.std.proofs.Common.{◌≡◌, ℕ, suc, ◌+◌, ◌*◌, ◌<◌, ◌≤◌, List, ◌∷◌, length, get_or, take, drop, Some, None, Ok, Err, Option, Result, sym, refl, ap, ◌∙◌, subst, arith}
 use Rattle.std.specs.Result.{MatchResult}
 use Rattle.std.proofs.lemmas.List.{drop_all, drop_more}
 use Rattle.sheet.specs.declared.answers.ReadRefusal.{ReadRefusal}
 use Rattle.sheet.specs.declared.answers.ReadRefusal.TheVariants.{Item}
 use Rattle.sheet.specs.declared.answers.Refusal.{Refusal}
-use Rattle.sheet.specs.declared.fields.Fields.{Fields}
 use Rattle.sheet.specs.declared.limits.Limits.{Limits}
 use Rattle.sheet.specs.Bytes.{add_each, add_formulas, add_rules, Brought, counts, fields_from, reading, then_read}
-use Rattle.sheet.specs.Contents.{Added, Contents, empty, with_formula, with_rule}
-use Rattle.sheet.specs.Formulas.{formula_of}
-use Rattle.sheet.specs.Refused.{refusal, rule_refusal}
+use Rattle.sheet.specs.Contents.{Added, Contents, empty}
 
 -- what an addition that succeeded, or was refused, tells
 

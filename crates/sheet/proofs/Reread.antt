@@ -1,11 +1,10 @@
 -- The bytes of a sheet are read as that sheet. Assumes nothing.
-use Rattle.std.proofs.Common.{◌≡◌, ℕ, suc, ◌+◌, ◌-◌, ◌*◌, ◌/◌, ◌%◌, ◌<◌, ◌≤◌, Bool, true, false, cond, not, ltb, leb, List, [], ◌∷◌, ◌++◌, map, length, get_or, take, drop, is_some, Some, None, Ok, Option, Result, unwrap_or, sym, refl, ap, ◌∙◌, subst, append_assoc, append-nil, add-zero, arith, length-append}
+use Rattle.std.proofs.Common.{◌≡◌, ℕ, suc, ◌+◌, ◌-◌, ◌*◌, ◌/◌, ◌%◌, ◌<◌, ◌≤◌, true, false, not, ltb, leb, List, [], ◌∷◌, ◌++◌, map, length, get_or, take, drop, Some, None, Ok, Result, sym, refl, ap, ◌∙◌, subst, append_assoc, append-nil, add-zero, arith, length-append}
 use Rattle.std.specs.List.{flat_map}
 use Rattle.std.proofs.lemmas.Bool.Decides.{nat_tests}
 use Rattle.std.proofs.lemmas.List.{drop_at, get_or-append-add, take_at}
-use Rattle.std.proofs.lemmas.Bool.{and_from, and_parts, cond-false, cond-true, eq-eqb, le-leb, le-ltb, leb-true, lt-leb, ltb-true, or_from}
+use Rattle.std.proofs.lemmas.Bool.{cond-false, eq-eqb, le-ltb, lt-leb, ltb-true, or_from}
 use Rattle.sheet.specs.declared.answers.ReadRefusal.{ReadRefusal}
-use Rattle.sheet.specs.declared.answers.Refusal.TheVariants.{Forward, Window as NoWindow, Scale}
 use Rattle.sheet.specs.declared.fields.Fields.{Fields}
 use Rattle.sheet.specs.declared.formulas.Formula.{Formula}
 use Rattle.sheet.specs.declared.formulas.Formula.TheVariants.{Never, Mark, Not, Or, Previous, Since, Count}
@@ -20,16 +19,14 @@ use Rattle.sheet.specs.Refused.{fault, refusal, rule_refusal}
 use Rattle.sheet.specs.Windows.{lawful_window, raw_high, raw_low, window_of}
 use Rattle.sheet.proofs.Built.{total-push}
 use Rattle.sheet.proofs.Grows.{told_no_rule, told_none}
+use Rattle.sheet.proofs.Lawful.{LawfulFrom, lawful_all, lawful_first, lawful_later}
 use Rattle.sheet.proofs.Receives.{each_on}
 
 -- a lawful window comes back from its fields
 
 window_back : (w : Window) → lawful_window w ≡ true → window_of (raw_low w) (raw_high w) ≡ Some w
-window_back (Closed low high) h =
-    let p = and_parts (ltb low high) _ h in
-    let lt = ltb-true low high p.0 in
-    cond-true _ _ _ (and_from _ _ (le-leb 1 high (omega arith)) (and_from _ _ p.1 p.0))
-window_back (Open low) h = cond-true _ _ _ h
+window_back (Closed low high) h = grind (arith, nat_tests)
+window_back (Open low) h = grind (arith, nat_tests)
 
 module _ (n : ℕ) where
   ahead : (a : ℕ) → ltb a n ≡ true → leb n a ≡ false
@@ -58,22 +55,19 @@ module _ (n : ℕ) where
 
 -- the formulas of a sheet are taken again, one after another
 
-abbrev pub LawfulFrom : ℕ → List Formula → Type 0
-LawfulFrom n fs = (i : ℕ) → i < length fs → lawful_at (n + i) (get_or fs i Never) ≡ true
-
 take_formulas : (limits : Limits) (fs : List Formula) (p : ℕ) (done : List Formula) → LawfulFrom (length done) fs → length done + length fs ≤ limits.formulas → total done + total fs ≤ limits.cells → add_formulas limits p (record { formulas = done; rules = [] }) (map fields_of fs) ≡ Ok (record { formulas = done ++ fs; rules = [] })
 unfolding add_formulas
 take_formulas limits [] p done lawful room cells = ap (λ (gs : List Formula). Ok (record { formulas = gs; rules = [] })) (sym (append-nil done))
 take_formulas limits (f ∷ fs) p done lawful room cells =
     let c : Contents = record { formulas = done; rules = [] } in
-    let first : lawful_at (length done) f ≡ true = subst (λ (n : ℕ). lawful_at n f ≡ true) (add-zero (length done)) (lawful 0 (omega arith)) in
+    let first = lawful_first (length done) f fs lawful in
     let back = formula_back (length done) f first in
     let free = sym (told_none limits c (fields_of f) (omega arith) (sym (faultless_back (length done) f first)) (subst (λ (g : Formula). total done + cells_of g ≤ limits.cells) (sym back) (omega arith))) in
     let long = length-append done (f ∷ []) in
     each_on (refusal limits) (λ d g. with_formula d (formula_of g)) p c (fields_of f) (map fields_of fs) free
     ∙ ap (λ (g : Formula). add_formulas limits (suc p) (with_formula c g) (map fields_of fs)) back
     ∙ take_formulas limits fs (suc p) (done ++ f ∷ [])
-    (λ i lt. let e : length done + suc i ≡ length (done ++ f ∷ []) + i = omega (arith, long) in subst (λ (n : ℕ). lawful_at n (get_or fs i Never) ≡ true) e (lawful (suc i) (omega arith)))
+    (lawful_later (length done) f fs lawful (length (done ++ f ∷ [])) (omega (arith, long)))
     (omega (arith, long))
     (omega (arith, total-push done f))
     ∙ ap (λ (gs : List Formula). Ok (record { formulas = gs; rules = [] })) (append_assoc done (f ∷ []) fs)
@@ -97,31 +91,17 @@ record Narrow (f : Fields) : Type 0 where
   low : f.low < 65536
   high : f.high < 65536
 
-narrow_window : (w : Window) → lawful_window w ≡ true → (raw_low w < 65536) × (raw_high w < 65536)
-narrow_window (Closed low high) h =
-    let p = and_parts (ltb low high) _ h in
-    let lt = ltb-true low high p.0 in
-    let le = leb-true high 4000 p.1 in
-    (omega arith, omega arith)
-narrow_window (Open low) h = let le = leb-true low 4000 h in (omega arith, omega arith)
-
 narrow : (n : ℕ) (f : Formula) → lawful_at n f ≡ true → Narrow (fields_of f)
 narrow n Never h = record { low = omega arith; high = omega arith }
 narrow n (Mark m) h = record { low = omega arith; high = omega arith }
 narrow n (Not a) h = record { low = omega arith; high = omega arith }
 narrow n (Or a b) h = record { low = omega arith; high = omega arith }
-narrow n (Previous a w) h = let p = and_parts (ltb a n) _ h in let v = narrow_window w p.1 in record { low = v.0; high = v.1 }
-narrow n (Since a b w) h =
-    let p = and_parts (ltb a n) _ h in
-    let q = and_parts (ltb b n) _ p.1 in
-    let v = narrow_window w q.1 in
-    record { low = v.0; high = v.1 }
-narrow n (Count a b s w) h =
-    let p = and_parts (ltb a n) _ h in
-    let q = and_parts (ltb b n) _ p.1 in
-    let r = and_parts (leb s 7) _ q.1 in
-    let v = narrow_window w r.1 in
-    record { low = v.0; high = v.1 }
+narrow n (Previous a (Closed l u)) h = record { low = grind (arith, nat_tests); high = grind (arith, nat_tests) }
+narrow n (Previous a (Open l)) h = record { low = grind (arith, nat_tests); high = omega arith }
+narrow n (Since a b (Closed l u)) h = record { low = grind (arith, nat_tests); high = grind (arith, nat_tests) }
+narrow n (Since a b (Open l)) h = record { low = grind (arith, nat_tests); high = omega arith }
+narrow n (Count a b s (Closed l u)) h = record { low = grind (arith, nat_tests); high = grind (arith, nat_tests) }
+narrow n (Count a b s (Open l)) h = record { low = grind (arith, nat_tests); high = omega arith }
 
 fields_there : (front : List ℕ) (f : Fields) (more : List ℕ) → Narrow f → fields_at (front ++ (field_bytes f ++ more)) (length front) ≡ f
 fields_there front f more h =
@@ -141,7 +121,7 @@ formulas_there : (fs : List Formula) (n : ℕ) (front more : List ℕ) (at : ℕ
 unfolding fields_from
 formulas_there [] n front more at long lawful = refl
 formulas_there (f ∷ fs) n front more at long lawful =
-    let first : lawful_at n f ≡ true = subst (λ (k : ℕ). lawful_at k f ≡ true) (add-zero n) (lawful 0 (omega arith)) in
+    let first = lawful_first n f fs lawful in
     let rest = flat_map formula_bytes fs ++ more in
     let group : front ++ ((formula_bytes f ++ flat_map formula_bytes fs) ++ more) ≡ front ++ (formula_bytes f ++ rest) = ap (λ (l : List ℕ). front ++ l) (append_assoc (formula_bytes f) (flat_map formula_bytes fs) more) in
     let regroup : front ++ (formula_bytes f ++ rest) ≡ (front ++ formula_bytes f) ++ rest = sym (append_assoc front (formula_bytes f) rest) in
@@ -149,7 +129,7 @@ formulas_there (f ∷ fs) n front more at long lawful =
     let tail : fields_from (length fs) (front ++ ((formula_bytes f ++ flat_map formula_bytes fs) ++ more)) (at + 8) ≡ map fields_of fs =
     ap (λ (l : List ℕ). fields_from (length fs) l (at + 8)) (group ∙ regroup)
     ∙ formulas_there fs (suc n) (front ++ formula_bytes f) more (at + 8) (omega (arith, length-append front (formula_bytes f)))
-    (λ i lt. let e : n + suc i ≡ suc n + i = omega arith in subst (λ (k : ℕ). lawful_at k (get_or fs i Never) ≡ true) e (lawful (suc i) (omega arith)))
+    (lawful_later n f fs lawful (suc n) (omega arith))
     in
     λ i. head i ∷ tail i
 
@@ -200,7 +180,7 @@ reread c h =
     let m = length rs in
     let bytes = bytes_of c in
     let tail = rs ++ trailer n m in
-    let lawful : LawfulFrom 0 fs = λ i lt. let e : i ≡ 0 + i = omega arith in subst (λ (k : ℕ). lawful_at k (get_or fs i Never) ≡ true) e (h.3 i lt) in
+    let lawful = lawful_all fs h.3 in
     let formulas : add_formulas server 0 empty (fields_from n bytes 0) ≡ Ok (record { formulas = fs; rules = [] }) =
     ap (add_formulas server 0 empty) (formulas_there fs 0 [] tail 0 refl lawful) ∙ take_formulas server fs 0 [] lawful (omega (arith, h.0)) (omega (arith, h.2))
     in

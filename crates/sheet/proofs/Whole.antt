@@ -2,7 +2,6 @@
 use Rattle.std.proofs.Common.{◌≡◌, ℕ, zero, suc, ◌+◌, ◌-◌, ◌*◌, ◌/◌, ◌<◌, ◌≤◌, true, false, List, ◌∷◌, length, map, get_or, take, drop, is_err, Ok, Err, Result, sym, refl, ap, ◌∙◌, subst, add-zero, arith}
 use Rattle.std.specs.Simd.{first_chunks}
 use Rattle.std.proofs.lemmas.List.{drop-drop, get_or-drop, get_or-take, length-take-le}
-use Rattle.std.proofs.lemmas.Bool.{false≢true, true≢false}
 use Rattle.sheet.specs.declared.answers.ReadRefusal.{ReadRefusal}
 use Rattle.sheet.specs.Bytes.{add_formulas, add_rules, Brought, bytes_of, counts, fields_from, fields_in, reading, Received, then_read}
 use Rattle.sheet.specs.Conditions.{Conditions, server}

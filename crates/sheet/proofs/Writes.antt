@@ -1,7 +1,7 @@
 -- Writing a sheet, piece by piece. Assumes nothing.
-use Rattle.std.proofs.Common.{◌≡◌, ℕ, ◌+◌, ◌*◌, ◌<◌, ◌≤◌, Bool, true, false, leb, List, [], ◌++◌, length, get_or, take, drop, Ok, Err, MatchBool, sym, refl, ap, ◌∙◌, subst₂, append_assoc, arith, length-append}
+use Rattle.std.proofs.Common.{◌≡◌, ℕ, ◌+◌, ◌*◌, ◌<◌, ◌≤◌, Bool, true, false, leb, List, [], ◌++◌, length, get_or, take, drop, Ok, Err, MatchBool, sym, refl, ap, ◌∙◌, append_assoc, arith, length-append}
 use Rattle.std.specs.List.{flat_map}
-use Rattle.std.proofs.lemmas.List.{drop_at, drop-drop, flat_map_more, take_all, take_at, take_more, length-take-le}
+use Rattle.std.proofs.lemmas.List.{drop_at, drop-drop, flat_map_more, take_at, take_more, length-take-le}
 use Rattle.std.proofs.lemmas.Bool.{false≢true, le-leb, lt-leb, true≢false}
 use Rattle.sheet.specs.declared.answers.WriteRefusal.TheVariants.{Short}
 use Rattle.sheet.specs.declared.formulas.Formula.{Formula}

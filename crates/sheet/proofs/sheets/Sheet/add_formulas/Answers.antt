@@ -1,4 +1,4 @@
-use Rattle.std.proofs.Common.{◌≡◌, ◌+◌, ◌<◌, ◌≤◌, List, [], length, map, refl, sym, ◌∙◌, Ok, Err, arith, rules}
+use Rattle.std.proofs.Common.{◌≡◌, [], map, refl, sym, ◌∙◌, Ok, Err, arith, rules}
 use Rattle.std.proofs.Math.ListN.{get_or-map, length-map}
 use Rattle.std.specs.Result.{MatchResult}
 use Rattle.sheet.specs.declared.answers.ReadRefusal.TheVariants.{Item}
