@@ -1,12 +1,11 @@
 -- What is not refused is lawful, and its fields come back from its formula. Assumes nothing.
-use Rattle.std.proofs.Common.{◌≡◌, ℕ, ◌+◌, ◌<◌, ◌≤◌, Bool, true, false, cond, ltb, leb, [], ◌∷◌, ◌++◌, length, Some, None, Option, sym, refl, subst, ⊎_elim, arith}
-use Rattle.std.proofs.lemmas.List.{get_or_append_left, get_or_push, length_push}
+use Rattle.std.proofs.Common.{◌≡◌, ℕ, ◌+◌, ◌<◌, ◌≤◌, Bool, true, false, cond, ltb, leb, [], ◌∷◌, ◌++◌, length, Some, None, Option, refl, subst, ⊎_elim, arith}
+use Rattle.std.proofs.lemmas.List.{length_push}
 use Rattle.std.proofs.lemmas.Bool.Decides.{nat_tests}
 use Rattle.std.proofs.lemmas.Bool.{cases_lt, leb-false, ltb-false}
 use Rattle.sheet.specs.declared.answers.Refusal.{Refusal}
 use Rattle.sheet.specs.declared.answers.Refusal.TheVariants.{Full, Kind, Forward, Cells}
 use Rattle.sheet.specs.declared.fields.Fields.{Fields}
-use Rattle.sheet.specs.declared.formulas.Formula.{Formula}
 use Rattle.sheet.specs.declared.formulas.Formula.TheVariants.{Never}
 use Rattle.sheet.specs.declared.limits.Limits.{Limits}
 use Rattle.sheet.specs.Conditions.{Conditions, lawful_at}
@@ -14,6 +13,7 @@ use Rattle.sheet.specs.Contents.{Contents}
 use Rattle.sheet.specs.Formulas.{cells_of, fields_of, formula_of, total}
 use Rattle.sheet.specs.Refused.{fault, or_else, refusal, rule_refusal}
 use Rattle.sheet.proofs.Built.{total-push}
+use Rattle.sheet.proofs.Pushed.{each_pushed}
 
 -- a reason that is not told does not hold
 
@@ -110,32 +110,23 @@ module _ (limits : Limits) (c : Contents) (holds : Conditions limits c.formulas 
       let g = formula_of f in
       let t = taken limits c f e in
       let long = length_push fs g in
-      let ok = (good (length fs) f t.faultless_there).lawful in (
-        omega (arith, long, t.room),
-        holds.1,
-        omega (arith, total-push fs g, t.cells),
-        λ i h.
-            ⊎_elim
-            (λ lt. subst (λ (x : Formula). lawful_at i x ≡ true) (sym (get_or_append_left fs (g ∷ []) Never i lt)) (holds.3 i lt))
-            (λ ge.
-            let at : length fs ≡ i = omega (arith, long) in
-            subst (λ (x : Formula). lawful_at i x ≡ true) (sym (get_or_push fs g Never i at)) (subst (λ (n : ℕ). lawful_at n g ≡ true) at ok))
-            (cases_lt i (length fs)),
-        λ i h. omega (arith, long, holds.4 i h),
-      )
+      record {
+        few_formulas = omega (arith, long, t.room);
+        few_rules = holds.few_rules;
+        cheap = omega (arith, total-push fs g, t.cells);
+        lawful = each_pushed (λ i x. lawful_at i x ≡ true) fs g Never holds.lawful (good (length fs) f t.faultless_there).lawful;
+        named = λ i h. omega (arith, long, holds.named i h);
+      }
 
   pub with_rule_lem : (n : ℕ) → rule_refusal limits c n ≡ None → Conditions limits c.formulas (c.rules ++ n ∷ [])
   with_rule_lem n e =
       let rs = c.rules in
       let t = rule_taken limits c n e in
-      let long = length_push rs n in (
-        holds.0,
-        omega (arith, long, t.0),
-        holds.2,
-        holds.3,
-        λ i h.
-            ⊎_elim
-            (λ lt. subst (λ (x : ℕ). x < length c.formulas) (sym (get_or_append_left rs (n ∷ []) 0 i lt)) (holds.4 i lt))
-            (λ ge. let at : length rs ≡ i = omega (arith, long) in subst (λ (x : ℕ). x < length c.formulas) (sym (get_or_push rs n 0 i at)) t.1)
-            (cases_lt i (length rs)),
-      )
+      let long = length_push rs n in
+      record {
+        few_formulas = holds.few_formulas;
+        few_rules = omega (arith, long, t.0);
+        cheap = holds.cheap;
+        lawful = holds.lawful;
+        named = each_pushed (λ _ x. x < length c.formulas) rs n 0 holds.named t.1;
+      }

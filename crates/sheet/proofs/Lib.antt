@@ -3,6 +3,7 @@ pub mod Built
 pub mod Grows
 pub mod Lawful
 pub mod Near
+pub mod Pushed
 pub mod Receives
 pub mod Reread
 pub mod Rewritten

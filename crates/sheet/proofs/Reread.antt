@@ -180,12 +180,12 @@ reread c h =
     let m = length rs in
     let bytes = bytes_of c in
     let tail = rs ++ trailer n m in
-    let lawful = lawful_all fs h.3 in
+    let lawful = lawful_all fs h.lawful in
     let formulas : add_formulas server 0 empty (fields_from n bytes 0) ≡ Ok (record { formulas = fs; rules = [] }) =
-    ap (add_formulas server 0 empty) (formulas_there fs 0 [] tail 0 refl lawful) ∙ take_formulas server fs 0 [] lawful (omega (arith, h.0)) (omega (arith, h.2))
+    ap (add_formulas server 0 empty) (formulas_there fs 0 [] tail 0 refl lawful) ∙ take_formulas server fs 0 [] lawful (omega (arith, h.few_formulas)) (omega (arith, h.cheap))
     in
     let rules : take m (drop (8 * n) bytes) ≡ rs = ap (take m) (drop_at (flat_map formula_bytes fs) tail (8 * n) (length-formulas fs)) ∙ take_at rs (trailer n m) m refl in
-    ap (λ (k : Result (ℕ × ℕ) ReadRefusal). then_read k (λ nm. then_read (add_formulas server 0 empty (fields_from nm.0 bytes 0)) (λ d. add_rules server nm.0 d (take nm.1 (drop (8 * nm.0) bytes))))) (counted c h.0)
+    ap (λ (k : Result (ℕ × ℕ) ReadRefusal). then_read k (λ nm. then_read (add_formulas server 0 empty (fields_from nm.0 bytes 0)) (λ d. add_rules server nm.0 d (take nm.1 (drop (8 * nm.0) bytes))))) (counted c h.few_formulas)
     ∙ ap (λ (k : Result Contents ReadRefusal). then_read k (λ d. add_rules server n d (take m (drop (8 * n) bytes)))) formulas
     ∙ ap (add_rules server n (record { formulas = fs; rules = [] })) rules
-    ∙ take_rules server fs rs n [] h.4 (omega (arith, h.1))
+    ∙ take_rules server fs rs n [] h.named (omega (arith, h.few_rules))
