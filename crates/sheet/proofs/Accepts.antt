@@ -4,7 +4,7 @@ use Rattle.std.proofs.lemmas.List.{length_push}
 use Rattle.std.proofs.lemmas.Bool.Decides.{nat_tests}
 use Rattle.std.proofs.lemmas.Bool.{cases_lt, leb-false, ltb-false}
 use Rattle.sheet.specs.declared.answers.Refusal.{Refusal}
-use Rattle.sheet.specs.declared.answers.Refusal.TheVariants.{Full, Kind, Forward, Cells}
+use Rattle.sheet.specs.declared.answers.Refusal.TheVariants.{Full, Kind, Cells}
 use Rattle.sheet.specs.declared.fields.Fields.{Fields}
 use Rattle.sheet.specs.declared.formulas.Formula.TheVariants.{Never}
 use Rattle.sheet.specs.declared.limits.Limits.{Limits}
@@ -96,10 +96,7 @@ taken limits c f e =
     }
 
 pub rule_taken : (limits : Limits) (c : Contents) (n : ℕ) → rule_refusal limits c n ≡ None → (length c.rules < limits.rules) × (n < length c.formulas)
-rule_taken limits c n e =
-    let room = passed (leb limits.rules (length c.rules)) Full _ e in
-    let there = passed (leb (length c.formulas) n) Forward None room.1 in
-    (leb-false limits.rules _ room.0, leb-false (length c.formulas) n there.0)
+rule_taken limits c n e = (grind (arith, nat_tests), grind (arith, nat_tests))
 
 -- the conditions go on to hold
 

@@ -1,5 +1,6 @@
 -- One formula more on a sheet: its refusal step by step, its reach and its cells. Assumes nothing.
 use Rattle.std.proofs.Common.{◌≡◌, ℕ, ◌+◌, ◌<◌, ◌≤◌, cond, ltb, List, [], ◌∷◌, ◌++◌, length, Some, None, Ok, Err, Option, sym, refl, ap, ◌∙◌, arith}
+use Rattle.std.proofs.lemmas.Bool.Decides.{nat_tests}
 use Rattle.std.proofs.lemmas.Bool.{cond-false, cond-true, le-ltb, lt-leb, lt-ltb}
 use Rattle.sheet.specs.declared.answers.Refusal.{Refusal}
 use Rattle.sheet.specs.declared.answers.Refusal.TheVariants.{Cells}
@@ -68,7 +69,7 @@ told_none limits c f room none cells =
     sym (unless_ok (refusal limits c f) g g (taken_so limits c f (length c.formulas) refl room g e cells)).0
 
 pub told_no_rule : (limits : Limits) (c : Contents) (n : ℕ) → length c.rules < limits.rules → n < length c.formulas → rule_refusal limits c n ≡ None
-told_no_rule limits c n room there = cond-false _ _ _ (lt-leb limits.rules _ room) ∙ cond-false _ _ _ (lt-leb (length c.formulas) n there)
+told_no_rule limits c n room there = grind (arith, nat_tests)
 
 pub reaching-push : (rs : List (Option ℕ)) (fs : List Formula) (f : Formula) (r : Option ℕ) → rs ≡ reaches fs → r ≡ reach_of (reaches fs) f → rs ++ r ∷ [] ≡ reaches (fs ++ f ∷ [])
 reaching-push rs fs f r e is = (λ i. e i ++ is i ∷ []) ∙ sym (built-push reach_of fs f)

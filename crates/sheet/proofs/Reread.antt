@@ -1,9 +1,9 @@
 -- The bytes of a sheet are read as that sheet. Assumes nothing.
-use Rattle.std.proofs.Common.{◌≡◌, ℕ, suc, ◌+◌, ◌-◌, ◌*◌, ◌/◌, ◌%◌, ◌<◌, ◌≤◌, true, false, not, ltb, leb, List, [], ◌∷◌, ◌++◌, map, length, get_or, take, drop, Some, None, Ok, Result, sym, refl, ap, ◌∙◌, subst, append_assoc, append-nil, add-zero, arith, length-append}
+use Rattle.std.proofs.Common.{◌≡◌, ℕ, suc, ◌+◌, ◌-◌, ◌*◌, ◌/◌, ◌%◌, ◌<◌, ◌≤◌, true, not, List, [], ◌∷◌, ◌++◌, map, length, get_or, take, drop, Some, None, Ok, Result, sym, refl, ap, ◌∙◌, subst, append_assoc, append-nil, add-zero, arith, length-append}
 use Rattle.std.specs.List.{flat_map}
 use Rattle.std.proofs.lemmas.Bool.Decides.{nat_tests}
 use Rattle.std.proofs.lemmas.List.{drop_at, get_or-append-add, take_at}
-use Rattle.std.proofs.lemmas.Bool.{cond-false, eq-eqb, le-ltb, lt-leb, ltb-true, or_from}
+use Rattle.std.proofs.lemmas.Bool.{cond-false, eq-eqb, le-ltb, or_from}
 use Rattle.sheet.specs.declared.answers.ReadRefusal.{ReadRefusal}
 use Rattle.sheet.specs.declared.fields.Fields.{Fields}
 use Rattle.sheet.specs.declared.formulas.Formula.{Formula}
@@ -29,9 +29,6 @@ window_back (Closed low high) h = grind (arith, nat_tests)
 window_back (Open low) h = grind (arith, nat_tests)
 
 module _ (n : ℕ) where
-  ahead : (a : ℕ) → ltb a n ≡ true → leb n a ≡ false
-  ahead a h = lt-leb n a (ltb-true a n h)
-
   faultless_back : (f : Formula) → lawful_at n f ≡ true → fault n (fields_of f) ≡ None
   faultless_back Never h = refl
   faultless_back (Mark m) h = grind (arith, nat_tests)

@@ -1,15 +1,14 @@
 -- Bytes that were read are the bytes of what was read. Assumes nothing.
-use Rattle.std.proofs.Common.{◌≡◌, ℕ, zero, suc, ◌+◌, ◌-◌, ◌*◌, ◌/◌, ◌%◌, ◌<◌, ◌≤◌, Bool, true, false, cond, ltb, List, [], ◌∷◌, ◌++◌, map, length, get_or, take, drop, Some, None, Ok, Err, Option, Result, sym, refl, ap, ◌∙◌, subst, append_assoc, append-nil, arith, length-drop, take-append-drop}
+use Rattle.std.proofs.Common.{◌≡◌, ℕ, zero, suc, ◌+◌, ◌-◌, ◌*◌, ◌/◌, ◌%◌, ◌<◌, ◌≤◌, List, [], ◌∷◌, ◌++◌, map, length, get_or, take, drop, Some, None, Ok, Err, Option, Result, sym, refl, ap, ◌∙◌, subst, append_assoc, append-nil, arith, length-drop, take-append-drop}
 use lib.ListN.{length-map}
 use Rattle.std.specs.List.{flat_map, AllByRecursion}
+use Rattle.std.proofs.lemmas.Bool.Decides.{nat_tests}
 use Rattle.std.proofs.lemmas.List.{drop-drop, drop_more, length-take-le}
-use Rattle.std.proofs.lemmas.Bool.{eqb-true, not-false, or_parts}
 use Rattle.sheet.specs.declared.answers.ReadRefusal.{ReadRefusal}
-use Rattle.sheet.specs.declared.answers.ReadRefusal.TheVariants.{Length, Trailer}
 use Rattle.sheet.specs.declared.answers.Refusal.{Refusal}
 use Rattle.sheet.specs.declared.fields.Fields.{Fields}
 use Rattle.sheet.specs.declared.limits.Limits.{Limits}
-use Rattle.sheet.specs.Bytes.{add_each, add_formulas, add_rules, bad_length, bad_trailer, bytes_of, counts, field_bytes, fields_at, fields_from, formula_bytes, formulas_in, pair, place_in, reading, rules_in, then_read, trailer}
+use Rattle.sheet.specs.Bytes.{add_each, add_formulas, add_rules, bytes_of, counts, field_bytes, fields_at, fields_from, formula_bytes, formulas_in, pair, place_in, reading, rules_in, then_read, trailer}
 use Rattle.sheet.specs.Contents.{Contents, empty, with_formula, with_rule}
 use Rattle.sheet.specs.Formulas.{fields_of, formula_of}
 use Rattle.sheet.specs.Refused.{refusal, rule_refusal}
@@ -69,19 +68,10 @@ pub record Sized (bs : List ℕ) (n m : ℕ) : Type 0 where
   place : place_in bs ≡ 8 * n
 
 pub sized : (bs : List ℕ) (n m : ℕ) → counts bs ≡ Ok (n, m) → Sized bs n m
-sized bs n m = go (bad_length bs) (bad_trailer bs) refl refl
-  where
-    go : (x y : Bool) → bad_length bs ≡ x → bad_trailer bs ≡ y → cond {A = Result (ℕ × ℕ) ReadRefusal} x (Err Length) (cond y (Err Trailer) (Ok (formulas_in bs, rules_in bs))) ≡ Ok (n, m) → Sized bs n m
-    go true y p q e = absurd (no_err Length (n, m) e)
-    go false true p q e = absurd (no_err Trailer (n, m) e)
-    go false false p q e =
-        let parts = or_parts (ltb (length bs) 4) _ p in
-        let long = eqb-true (length bs) (8 * formulas_in bs + rules_in bs + 4) (not-false _ parts.1) in
-        let place = eqb-true (place_in bs) (8 * formulas_in bs) (not-false _ q) in
-        let same : ◌≡◌ {A = ℕ × ℕ} (formulas_in bs, rules_in bs) (n, m) = cc e in
-        let a = ap (λ (x : ℕ × ℕ). x.0) same in
-        let b = ap (λ (x : ℕ × ℕ). x.1) same in
-        record { formulas = a; rules = b; long = omega arith; place = omega arith }
+sized bs n m e =
+    let formulas : formulas_in bs ≡ n = grind (arith, nat_tests) in
+    let rules : rules_in bs ≡ m = grind (arith, nat_tests) in
+    record { formulas = formulas; rules = rules; long = grind (arith, nat_tests); place = grind (arith, nat_tests) }
 
 -- bytes, taken eight at a time
 

@@ -1,8 +1,8 @@
 -- Writing a sheet, piece by piece. Assumes nothing.
-use Rattle.std.proofs.Common.{◌≡◌, ℕ, ◌+◌, ◌*◌, ◌<◌, ◌≤◌, Bool, true, false, leb, List, [], ◌++◌, length, get_or, take, drop, Ok, Err, MatchBool, sym, refl, ap, ◌∙◌, append_assoc, arith, length-append}
+use Rattle.std.proofs.Common.{◌≡◌, ℕ, ◌+◌, ◌*◌, ◌<◌, ◌≤◌, List, [], ◌++◌, length, get_or, take, drop, Ok, Err, sym, refl, ap, ◌∙◌, append_assoc, arith, length-append}
 use Rattle.std.specs.List.{flat_map}
 use Rattle.std.proofs.lemmas.List.{drop_at, drop-drop, flat_map_more, take_at, take_more, length-take-le}
-use Rattle.std.proofs.lemmas.Bool.{false≢true, le-leb, lt-leb, true≢false}
+use Rattle.std.proofs.lemmas.Bool.{le-leb, lt-leb}
 use Rattle.sheet.specs.declared.answers.WriteRefusal.TheVariants.{Short}
 use Rattle.sheet.specs.declared.formulas.Formula.{Formula}
 use Rattle.sheet.specs.declared.formulas.Formula.TheVariants.{Never}
@@ -37,20 +37,12 @@ one_formula fs before i out piece after inv lt is wrote =
 
 -- as a contract says it
 
-at_true : (b : Bool) (P Q : Type 0) → b ≡ true → P → MatchBool b P Q
-at_true true P Q e p = p
-at_true false P Q e p = absurd (false≢true e)
-
-at_false : (b : Bool) (P Q : Type 0) → b ≡ false → Q → MatchBool b P Q
-at_false true P Q e q = absurd (true≢false e)
-at_false false P Q e q = q
-
 module _ (c : Contents) (few : length c.formulas ≤ 64) (n m : ℕ) (isN : n ≡ length c.formulas) (isM : m ≡ length c.rules) (before : List ℕ) where
   long : length (bytes_of c) ≡ 8 * n + m + 4
   long = bytes_long c few ∙ omega arith
 
   pub too_short : length before < 8 * n + m + 4 → Written (bytes_of c) before (Err Short) before
-  too_short h = at_false (leb (length (bytes_of c)) (length before)) _ _ (lt-leb (length (bytes_of c)) (length before) (omega (arith, long))) (refl, refl)
+  too_short h = let no = lt-leb (length (bytes_of c)) (length before) (omega (arith, long)) in rw no (refl, refl)
 
   -- the formulas, the rules, the trailer
   pub fits_in : 8 * n + m + 4 ≤ length before → (one two three rules ends : List ℕ) → rules ≡ c.rules → ends ≡ trailer n m → one ≡ flat_map formula_bytes c.formulas ++ drop (8 * length c.formulas) before → two ≡ put_at one (8 * n) rules → three ≡ put_at two (8 * n + m) ends → Written (bytes_of c) before (Ok (8 * n + m + 4)) three
@@ -67,5 +59,5 @@ module _ (c : Contents) (few : length c.formulas ≤ 64) (n m : ℕ) (isN : n �
       third ∙ ap (λ (l : List ℕ). put_at l (8 * n + m) ends) b ∙ put_next (fs ++ rules) ends before (8 * n + m) (omega (arith, length-append fs rules)) ∙ ap (λ (k : ℕ). ((fs ++ rules) ++ ends) ++ drop (8 * n + m + k) before) ends_long
       in
       let spelt : (fs ++ rules) ++ ends ≡ bytes_of c = append_assoc fs rules ends ∙ λ i. fs ++ (isRules i ++ (isEnds ∙ λ j. trailer (isN j) (isM j)) i) in
-      at_true (leb (length (bytes_of c)) (length before)) _ _ (le-leb (length (bytes_of c)) (length before) (omega (arith, long)))
-      (ap Ok (sym long), d ∙ λ i. spelt i ++ drop (sym long i) before)
+      let yes = le-leb (length (bytes_of c)) (length before) (omega (arith, long)) in
+      rw yes (ap Ok (sym long), d ∙ λ i. spelt i ++ drop (sym long i) before)
