@@ -1,5 +1,5 @@
 // Which raw fields are a formula, and why others are none.
-ghost use Rattle.std.specs.Prelude.{◌≡◌, cond, nat_le, nat_lt};
+ghost use Rattle.std.specs.Prelude.{◌≡◌, cond, nat_le};
 ghost use Rattle.std.specs.Option.{ok_or};
 ghost use Rattle.sheet.specs.Fields.{kind_number};
 ghost use Rattle.sheet.specs.Formulas.{formula_of};
@@ -24,29 +24,29 @@ pub fn formula(n: usize, f: Fields) -> Result<Formula, Refusal>
     match kind {
         Kind::Never => Ok(Formula::Never),
         Kind::Mark => Ok(Formula::Mark {
-            mark: known_mark(f.a)?,
+            mark: below(26, f.a, Refusal::Mark)?,
         }),
         Kind::Not => Ok(Formula::Not {
-            a: earlier(n, f.a)?,
+            a: below(n, f.a, Refusal::Forward)?,
         }),
         Kind::Or => Ok(Formula::Or {
-            a: earlier(n, f.a)?,
-            b: earlier(n, f.b)?,
+            a: below(n, f.a, Refusal::Forward)?,
+            b: below(n, f.b, Refusal::Forward)?,
         }),
         Kind::Previous => Ok(Formula::Previous {
-            a: earlier(n, f.a)?,
+            a: below(n, f.a, Refusal::Forward)?,
             window: window(f)?,
         }),
         Kind::Since => Ok(Formula::Since {
-            a: earlier(n, f.a)?,
-            b: earlier(n, f.b)?,
+            a: below(n, f.a, Refusal::Forward)?,
+            b: below(n, f.b, Refusal::Forward)?,
             window: window(f)?,
         }),
         Kind::Count => Ok(Formula::Count {
-            a: earlier(n, f.a)?,
-            b: earlier(n, f.b)?,
+            a: below(n, f.a, Refusal::Forward)?,
+            b: below(n, f.b, Refusal::Forward)?,
             window: window(f)?,
-            scale: known_scale(f.scale)?,
+            scale: below(8, f.scale, Refusal::Scale)?,
         }),
     }
 }
@@ -64,21 +64,12 @@ fn is_spare(kind: Kind, f: Fields) -> bool
         || !used.window && f.high != 0
 }
 
-fn known_mark(mark: u8) -> Result<u8, Refusal>
-    ensures { result ≡ cond (nat_lt 25 mark) (Err Refusal.Mark) (Ok mark) }
+// The number, where it is below an end.
+fn below(end: usize, number: u8, refusal: Refusal) -> Result<u8, Refusal>
+    ensures { result ≡ cond (nat_le end number) (Err refusal) (Ok number) }
 {
-    if mark > 25 {
-        return Err(Refusal::Mark);
-    }
-    Ok(mark)
-}
-
-// The number of one of the first `n` formulas.
-fn earlier(n: usize, number: u8) -> Result<u8, Refusal>
-    ensures { result ≡ cond (nat_le n number) (Err Refusal.Forward) (Ok number) }
-{
-    if usize::from(number) >= n {
-        return Err(Refusal::Forward);
+    if usize::from(number) >= end {
+        return Err(refusal);
     }
     Ok(number)
 }
@@ -87,13 +78,4 @@ fn window(f: Fields) -> Result<Window, Refusal>
     ensures { result ≡ ok_or (window_of f.low f.high) Refusal.Window }
 {
     Window::new(f.low, f.high).ok_or(Refusal::Window)
-}
-
-fn known_scale(scale: u8) -> Result<u8, Refusal>
-    ensures { result ≡ cond (nat_lt 7 scale) (Err Refusal.Scale) (Ok scale) }
-{
-    if scale > 7 {
-        return Err(Refusal::Scale);
-    }
-    Ok(scale)
 }
