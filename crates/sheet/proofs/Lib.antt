@@ -1,7 +1,9 @@
 pub mod Accepts
 pub mod Built
 pub mod Grows
+pub mod Lawful
 pub mod Near
+pub mod Pushed
 pub mod Receives
 pub mod Reread
 pub mod Rewritten

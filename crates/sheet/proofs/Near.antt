@@ -1,6 +1,6 @@
 -- A reach stays small: each formula adds at most 3,999 seconds to those before it. Assumes nothing.
-use Rattle.std.proofs.Common.{◌≡◌, ℕ, suc, ◌+◌, ◌-◌, ◌*◌, ◌<◌, ◌≤◌, true, ltb, leb, List, [], ◌∷◌, ◌++◌, length, get_or, IfSome, Some, None, Option, sym, subst, ⊎_elim, arith, length-append}
-use Rattle.std.proofs.lemmas.List.{get_or_append_left, get_or_past, get_or_push}
+use Rattle.std.proofs.Common.{◌≡◌, ℕ, ◌+◌, ◌-◌, ◌*◌, ◌<◌, ◌≤◌, true, ltb, leb, List, [], ◌∷◌, ◌++◌, length, get_or, IfSome, Some, None, Option, sym, subst, ⊎_elim, arith, length-append}
+use Rattle.std.proofs.lemmas.List.{get_or_past}
 use Rattle.std.proofs.lemmas.Bool.{and_parts, cases_lt, leb-true, ltb-true}
 use Rattle.sheet.specs.declared.formulas.Formula.{Formula}
 use Rattle.sheet.specs.declared.formulas.Formula.TheVariants.{Never, Mark, Not, Or, Previous, Since, Count}
@@ -10,6 +10,8 @@ use Rattle.sheet.specs.Conditions.{lawful_at, EachLawful}
 use Rattle.sheet.specs.Formulas.{beyond, built_on, greater, reach_at, reach_of, reaches}
 use Rattle.sheet.specs.Windows.{lawful_window}
 use Rattle.sheet.proofs.Built.{length-built}
+use Rattle.sheet.proofs.Lawful.{LawfulFrom, lawful_all, lawful_first, lawful_later}
+use Rattle.sheet.proofs.Pushed.{each_pushed}
 
 -- at most so many seconds, where there is a reach
 abbrev pub Within : ℕ → Option ℕ → Type 0
@@ -64,32 +66,20 @@ module _ (rs : List (Option ℕ)) (near : AllNear rs) where
       one_window a w _ p.0 r.1 (greater_within _ (reach_at rs a) (reach_at rs b) (well_before a p.0) (well_before b q.0))
 
   push_near : (o : Option ℕ) → Within (3999 * length rs) o → AllNear (rs ++ o ∷ [])
-  push_near o p i h =
-      ⊎_elim
-      (λ lt. subst (Within (3999 * i)) (sym (get_or_append_left rs (o ∷ []) None i lt)) (near i lt))
-      (λ ge.
-      let e : length rs ≡ i = omega (arith, length-append rs (o ∷ [])) in
-      subst (Within (3999 * i)) (sym (get_or_push rs o None i e)) (subst (λ (n : ℕ). Within (3999 * n) o) e p))
-      (cases_lt i (length rs))
-
--- every formula to come is lawful behind n others
-abbrev LawfulFrom : ℕ → List Formula → Type 0
-LawfulFrom n fs = (i : ℕ) → i < length fs → lawful_at (n + i) (get_or fs i Never) ≡ true
+  push_near o p = each_pushed (λ i. Within (3999 * i)) rs o None near p
 
 all_near : (fs : List Formula) (rs : List (Option ℕ)) → AllNear rs → LawfulFrom (length rs) fs → AllNear (built_on reach_of rs fs)
 all_near [] rs near h = near
 all_near (f ∷ fs) rs near h =
-    let first : lawful_at (length rs) f ≡ true = subst (λ (n : ℕ). lawful_at n f ≡ true) (omega arith) (h 0 (omega arith)) in
-    all_near fs (rs ++ reach_of rs f ∷ []) (push_near rs near (reach_of rs f) (next_near rs near f first))
-    (λ i lt.
-    let e : length rs + suc i ≡ length (rs ++ reach_of rs f ∷ []) + i = omega (arith, length-append rs (reach_of rs f ∷ [])) in
-    subst (λ (n : ℕ). lawful_at n (get_or fs i Never) ≡ true) e (h (suc i) (omega arith)))
+    let n = length rs in
+    all_near fs (rs ++ reach_of rs f ∷ []) (push_near rs near (reach_of rs f) (next_near rs near f (lawful_first n f fs h)))
+    (lawful_later n f fs h (length (rs ++ reach_of rs f ∷ [])) (omega (arith, length-append rs (reach_of rs f ∷ []))))
 
 -- so is the reach of every number, on a sheet
 pub reach_near : (fs : List Formula) (a : ℕ) → EachLawful fs → Within (3999 * a) (reach_at (reaches fs) a)
 reach_near fs a h =
     ⊎_elim
-    (all_near fs [] (λ i lt. absurd (omega arith)) (λ i lt. let e : i ≡ 0 + i = omega arith in subst (λ (n : ℕ). lawful_at n (get_or fs i Never) ≡ true) e (h i lt)) a)
+    (all_near fs [] (λ i lt. absurd (omega arith)) (lawful_all fs h) a)
     (λ ge. subst (Within (3999 * a)) (sym (get_or_past (reaches fs) a None ge)) tt)
     (cases_lt a (length (reaches fs)))
 

@@ -1,11 +1,11 @@
 -- The bytes of a sheet are read as that sheet. Assumes nothing.
-use Rattle.std.proofs.Common.{◌≡◌, ℕ, suc, ◌+◌, ◌-◌, ◌*◌, ◌/◌, ◌%◌, ◌<◌, ◌≤◌, Bool, true, false, cond, not, ltb, leb, List, [], ◌∷◌, ◌++◌, map, length, get_or, take, drop, is_some, Some, None, Ok, Option, Result, unwrap_or, sym, refl, ap, ◌∙◌, subst, append_assoc, append-nil, add-zero, arith, length-append}
+use Rattle.std.proofs.Common.{◌≡◌, ℕ, suc, ◌+◌, ◌-◌, ◌*◌, ◌/◌, ◌%◌, ◌<◌, ◌≤◌, true, not, List, [], ◌∷◌, ◌++◌, map, length, get_or, take, drop, Some, None, Ok, Result, sym, refl, ap, ◌∙◌, subst, append_assoc, append-nil, add-zero, arith, length-append}
 use Rattle.std.specs.List.{flat_map}
+use Rattle.std.proofs.lemmas.Bool.Decides.{nat_tests}
 use Rattle.std.proofs.lemmas.List.{drop_at, get_or-append-add, take_at}
-use Rattle.std.proofs.lemmas.Bool.{and_from, and_parts, cond-false, cond-true, eq-eqb, le-leb, le-ltb, leb-true, lt-leb, ltb-true, or_from}
+use Rattle.std.proofs.lemmas.Bool.{cond-false, eq-eqb, le-ltb, or_from}
 use Rattle.sheet.specs.declared.answers.ReadRefusal.{ReadRefusal}
-use Rattle.sheet.specs.declared.answers.Refusal.TheVariants.{Forward, Window as NoWindow, Scale}
-use Rattle.sheet.specs.declared.formulas.Fields.{Fields}
+use Rattle.sheet.specs.declared.fields.Fields.{Fields}
 use Rattle.sheet.specs.declared.formulas.Formula.{Formula}
 use Rattle.sheet.specs.declared.formulas.Formula.TheVariants.{Never, Mark, Not, Or, Previous, Since, Count}
 use Rattle.sheet.specs.declared.limits.Limits.{Limits}
@@ -13,82 +13,58 @@ use Rattle.sheet.specs.declared.windows.Window.{Window}
 use Rattle.sheet.specs.declared.windows.Window.TheVariants.{Closed, Open}
 use Rattle.sheet.specs.Bytes.{add_formulas, add_rules, bytes_of, counts, field_bytes, fields_at, fields_from, formula_bytes, reading, then_read, trailer}
 use Rattle.sheet.specs.Conditions.{Conditions, lawful_at, server}
-use Rattle.sheet.specs.Contents.{Contents, empty, with_formula}
+use Rattle.sheet.specs.Contents.{Contents, empty, with_formula, with_rule}
 use Rattle.sheet.specs.Formulas.{cells_of, fields_of, formula_of, total}
-use Rattle.sheet.specs.Refused.{fault}
+use Rattle.sheet.specs.Refused.{fault, refusal, rule_refusal}
 use Rattle.sheet.specs.Windows.{lawful_window, raw_high, raw_low, window_of}
 use Rattle.sheet.proofs.Built.{total-push}
 use Rattle.sheet.proofs.Grows.{told_no_rule, told_none}
-use Rattle.sheet.proofs.Receives.{formula_on, rule_on}
+use Rattle.sheet.proofs.Lawful.{LawfulFrom, lawful_all, lawful_first, lawful_later}
+use Rattle.sheet.proofs.Receives.{each_on}
 
 -- a lawful window comes back from its fields
 
 window_back : (w : Window) → lawful_window w ≡ true → window_of (raw_low w) (raw_high w) ≡ Some w
-window_back (Closed low high) h =
-    let p = and_parts (ltb low high) _ h in
-    let lt = ltb-true low high p.0 in
-    cond-true _ _ _ (and_from _ _ (le-leb 1 high (omega arith)) (and_from _ _ p.1 p.0))
-window_back (Open low) h = cond-true _ _ _ h
+window_back (Closed low high) h = grind (arith, nat_tests)
+window_back (Open low) h = grind (arith, nat_tests)
 
 module _ (n : ℕ) where
-  ahead : (a : ℕ) → ltb a n ≡ true → leb n a ≡ false
-  ahead a h = lt-leb n a (ltb-true a n h)
-
-  -- with a window
-  no_fault : (a b s : ℕ) (w : Window) → lawful_window w ≡ true → (fw : Bool) → fw ≡ false → leb s 7 ≡ true → cond fw (Some Forward) (cond (not (is_some (window_of (raw_low w) (raw_high w)))) (Some NoWindow) (cond (ltb 7 s) (Some Scale) None)) ≡ None
-  no_fault a b s w h fw e small =
-      cond-false _ _ _ e ∙ cond-false _ _ _ (ap (λ (o : Option Window). not (is_some o)) (window_back w h)) ∙ cond-false _ _ _ (le-ltb 7 s (leb-true s 7 small))
-
   faultless_back : (f : Formula) → lawful_at n f ≡ true → fault n (fields_of f) ≡ None
   faultless_back Never h = refl
-  faultless_back (Mark m) h = cond-false _ _ _ (le-ltb 25 m (leb-true m 25 h))
-  faultless_back (Not a) h = cond-false _ _ _ (or_from _ _ (ahead a h) refl)
-  faultless_back (Or a b) h = let p = and_parts (ltb a n) _ h in cond-false _ _ _ (or_from _ _ (ahead a p.0) (ahead b p.1))
-  faultless_back (Previous a w) h = let p = and_parts (ltb a n) _ h in no_fault a 0 0 w p.1 _ (or_from _ _ (ahead a p.0) refl) refl
-  faultless_back (Since a b w) h =
-      let p = and_parts (ltb a n) _ h in
-      let q = and_parts (ltb b n) _ p.1 in
-      no_fault a b 0 w q.1 _ (or_from _ _ (ahead a p.0) (ahead b q.0)) refl
-  faultless_back (Count a b s w) h =
-      let p = and_parts (ltb a n) _ h in
-      let q = and_parts (ltb b n) _ p.1 in
-      let r = and_parts (leb s 7) _ q.1 in
-      no_fault a b s w r.1 _ (or_from _ _ (ahead a p.0) (ahead b q.0)) r.0
+  faultless_back (Mark m) h = grind (arith, nat_tests)
+  faultless_back (Not a) h = grind (arith, nat_tests)
+  faultless_back (Or a b) h = grind (arith, nat_tests)
+  faultless_back (Previous a (Closed l u)) h = grind (arith, nat_tests)
+  faultless_back (Previous a (Open l)) h = grind (arith, nat_tests)
+  faultless_back (Since a b (Closed l u)) h = grind (arith, nat_tests)
+  faultless_back (Since a b (Open l)) h = grind (arith, nat_tests)
+  faultless_back (Count a b s (Closed l u)) h = grind (arith, nat_tests)
+  faultless_back (Count a b s (Open l)) h = grind (arith, nat_tests)
 
   formula_back : (f : Formula) → lawful_at n f ≡ true → formula_of (fields_of f) ≡ f
   formula_back Never h = refl
   formula_back (Mark m) h = refl
   formula_back (Not a) h = refl
   formula_back (Or a b) h = refl
-  formula_back (Previous a w) h = let p = and_parts (ltb a n) _ h in ap (λ (o : Option Window). Previous a (unwrap_or o (Open 0))) (window_back w p.1)
-  formula_back (Since a b w) h =
-      let p = and_parts (ltb a n) _ h in
-      let q = and_parts (ltb b n) _ p.1 in
-      ap (λ (o : Option Window). Since a b (unwrap_or o (Open 0))) (window_back w q.1)
-  formula_back (Count a b s w) h =
-      let p = and_parts (ltb a n) _ h in
-      let q = and_parts (ltb b n) _ p.1 in
-      let r = and_parts (leb s 7) _ q.1 in
-      ap (λ (o : Option Window). Count a b s (unwrap_or o (Open 0))) (window_back w r.1)
+  formula_back (Previous a w) h = grind (arith, nat_tests, window_back w)
+  formula_back (Since a b w) h = grind (arith, nat_tests, window_back w)
+  formula_back (Count a b s w) h = grind (arith, nat_tests, window_back w)
 
 -- the formulas of a sheet are taken again, one after another
-
-abbrev pub LawfulFrom : ℕ → List Formula → Type 0
-LawfulFrom n fs = (i : ℕ) → i < length fs → lawful_at (n + i) (get_or fs i Never) ≡ true
 
 take_formulas : (limits : Limits) (fs : List Formula) (p : ℕ) (done : List Formula) → LawfulFrom (length done) fs → length done + length fs ≤ limits.formulas → total done + total fs ≤ limits.cells → add_formulas limits p (record { formulas = done; rules = [] }) (map fields_of fs) ≡ Ok (record { formulas = done ++ fs; rules = [] })
 unfolding add_formulas
 take_formulas limits [] p done lawful room cells = ap (λ (gs : List Formula). Ok (record { formulas = gs; rules = [] })) (sym (append-nil done))
 take_formulas limits (f ∷ fs) p done lawful room cells =
     let c : Contents = record { formulas = done; rules = [] } in
-    let first : lawful_at (length done) f ≡ true = subst (λ (n : ℕ). lawful_at n f ≡ true) (add-zero (length done)) (lawful 0 (omega arith)) in
+    let first = lawful_first (length done) f fs lawful in
     let back = formula_back (length done) f first in
     let free = sym (told_none limits c (fields_of f) (omega arith) (sym (faultless_back (length done) f first)) (subst (λ (g : Formula). total done + cells_of g ≤ limits.cells) (sym back) (omega arith))) in
     let long = length-append done (f ∷ []) in
-    formula_on limits p c (fields_of f) (map fields_of fs) free
+    each_on (refusal limits) (λ d g. with_formula d (formula_of g)) p c (fields_of f) (map fields_of fs) free
     ∙ ap (λ (g : Formula). add_formulas limits (suc p) (with_formula c g) (map fields_of fs)) back
     ∙ take_formulas limits fs (suc p) (done ++ f ∷ [])
-    (λ i lt. let e : length done + suc i ≡ length (done ++ f ∷ []) + i = omega (arith, long) in subst (λ (n : ℕ). lawful_at n (get_or fs i Never) ≡ true) e (lawful (suc i) (omega arith)))
+    (lawful_later (length done) f fs lawful (length (done ++ f ∷ [])) (omega (arith, long)))
     (omega (arith, long))
     (omega (arith, total-push done f))
     ∙ ap (λ (gs : List Formula). Ok (record { formulas = gs; rules = [] })) (append_assoc done (f ∷ []) fs)
@@ -99,7 +75,7 @@ take_rules limits fs [] p done named room = ap (λ (rs : List ℕ). Ok (record {
 take_rules limits fs (n ∷ ns) p done named room =
     let c : Contents = record { formulas = fs; rules = done } in
     let long = length-append done (n ∷ []) in
-    rule_on limits p c n ns (told_no_rule limits c n (omega arith) (named 0 (omega arith)))
+    each_on (rule_refusal limits) with_rule p c n ns (told_no_rule limits c n (omega arith) (named 0 (omega arith)))
     ∙ take_rules limits fs ns (suc p) (done ++ n ∷ []) (λ i lt. named (suc i) (omega arith)) (omega (arith, long))
     ∙ ap (λ (rs : List ℕ). Ok (record { formulas = fs; rules = rs })) (append_assoc done (n ∷ []) ns)
 
@@ -112,31 +88,17 @@ record Narrow (f : Fields) : Type 0 where
   low : f.low < 65536
   high : f.high < 65536
 
-narrow_window : (w : Window) → lawful_window w ≡ true → (raw_low w < 65536) × (raw_high w < 65536)
-narrow_window (Closed low high) h =
-    let p = and_parts (ltb low high) _ h in
-    let lt = ltb-true low high p.0 in
-    let le = leb-true high 4000 p.1 in
-    (omega arith, omega arith)
-narrow_window (Open low) h = let le = leb-true low 4000 h in (omega arith, omega arith)
-
 narrow : (n : ℕ) (f : Formula) → lawful_at n f ≡ true → Narrow (fields_of f)
 narrow n Never h = record { low = omega arith; high = omega arith }
 narrow n (Mark m) h = record { low = omega arith; high = omega arith }
 narrow n (Not a) h = record { low = omega arith; high = omega arith }
 narrow n (Or a b) h = record { low = omega arith; high = omega arith }
-narrow n (Previous a w) h = let p = and_parts (ltb a n) _ h in let v = narrow_window w p.1 in record { low = v.0; high = v.1 }
-narrow n (Since a b w) h =
-    let p = and_parts (ltb a n) _ h in
-    let q = and_parts (ltb b n) _ p.1 in
-    let v = narrow_window w q.1 in
-    record { low = v.0; high = v.1 }
-narrow n (Count a b s w) h =
-    let p = and_parts (ltb a n) _ h in
-    let q = and_parts (ltb b n) _ p.1 in
-    let r = and_parts (leb s 7) _ q.1 in
-    let v = narrow_window w r.1 in
-    record { low = v.0; high = v.1 }
+narrow n (Previous a (Closed l u)) h = record { low = grind (arith, nat_tests); high = grind (arith, nat_tests) }
+narrow n (Previous a (Open l)) h = record { low = grind (arith, nat_tests); high = omega arith }
+narrow n (Since a b (Closed l u)) h = record { low = grind (arith, nat_tests); high = grind (arith, nat_tests) }
+narrow n (Since a b (Open l)) h = record { low = grind (arith, nat_tests); high = omega arith }
+narrow n (Count a b s (Closed l u)) h = record { low = grind (arith, nat_tests); high = grind (arith, nat_tests) }
+narrow n (Count a b s (Open l)) h = record { low = grind (arith, nat_tests); high = omega arith }
 
 fields_there : (front : List ℕ) (f : Fields) (more : List ℕ) → Narrow f → fields_at (front ++ (field_bytes f ++ more)) (length front) ≡ f
 fields_there front f more h =
@@ -156,7 +118,7 @@ formulas_there : (fs : List Formula) (n : ℕ) (front more : List ℕ) (at : ℕ
 unfolding fields_from
 formulas_there [] n front more at long lawful = refl
 formulas_there (f ∷ fs) n front more at long lawful =
-    let first : lawful_at n f ≡ true = subst (λ (k : ℕ). lawful_at k f ≡ true) (add-zero n) (lawful 0 (omega arith)) in
+    let first = lawful_first n f fs lawful in
     let rest = flat_map formula_bytes fs ++ more in
     let group : front ++ ((formula_bytes f ++ flat_map formula_bytes fs) ++ more) ≡ front ++ (formula_bytes f ++ rest) = ap (λ (l : List ℕ). front ++ l) (append_assoc (formula_bytes f) (flat_map formula_bytes fs) more) in
     let regroup : front ++ (formula_bytes f ++ rest) ≡ (front ++ formula_bytes f) ++ rest = sym (append_assoc front (formula_bytes f) rest) in
@@ -164,7 +126,7 @@ formulas_there (f ∷ fs) n front more at long lawful =
     let tail : fields_from (length fs) (front ++ ((formula_bytes f ++ flat_map formula_bytes fs) ++ more)) (at + 8) ≡ map fields_of fs =
     ap (λ (l : List ℕ). fields_from (length fs) l (at + 8)) (group ∙ regroup)
     ∙ formulas_there fs (suc n) (front ++ formula_bytes f) more (at + 8) (omega (arith, length-append front (formula_bytes f)))
-    (λ i lt. let e : n + suc i ≡ suc n + i = omega arith in subst (λ (k : ℕ). lawful_at k (get_or fs i Never) ≡ true) e (lawful (suc i) (omega arith)))
+    (lawful_later n f fs lawful (suc n) (omega arith))
     in
     λ i. head i ∷ tail i
 
@@ -215,12 +177,12 @@ reread c h =
     let m = length rs in
     let bytes = bytes_of c in
     let tail = rs ++ trailer n m in
-    let lawful : LawfulFrom 0 fs = λ i lt. let e : i ≡ 0 + i = omega arith in subst (λ (k : ℕ). lawful_at k (get_or fs i Never) ≡ true) e (h.3 i lt) in
+    let lawful = lawful_all fs h.lawful in
     let formulas : add_formulas server 0 empty (fields_from n bytes 0) ≡ Ok (record { formulas = fs; rules = [] }) =
-    ap (add_formulas server 0 empty) (formulas_there fs 0 [] tail 0 refl lawful) ∙ take_formulas server fs 0 [] lawful (omega (arith, h.0)) (omega (arith, h.2))
+    ap (add_formulas server 0 empty) (formulas_there fs 0 [] tail 0 refl lawful) ∙ take_formulas server fs 0 [] lawful (omega (arith, h.few_formulas)) (omega (arith, h.cheap))
     in
     let rules : take m (drop (8 * n) bytes) ≡ rs = ap (take m) (drop_at (flat_map formula_bytes fs) tail (8 * n) (length-formulas fs)) ∙ take_at rs (trailer n m) m refl in
-    ap (λ (k : Result (ℕ × ℕ) ReadRefusal). then_read k (λ nm. then_read (add_formulas server 0 empty (fields_from nm.0 bytes 0)) (λ d. add_rules server nm.0 d (take nm.1 (drop (8 * nm.0) bytes))))) (counted c h.0)
+    ap (λ (k : Result (ℕ × ℕ) ReadRefusal). then_read k (λ nm. then_read (add_formulas server 0 empty (fields_from nm.0 bytes 0)) (λ d. add_rules server nm.0 d (take nm.1 (drop (8 * nm.0) bytes))))) (counted c h.few_formulas)
     ∙ ap (λ (k : Result Contents ReadRefusal). then_read k (λ d. add_rules server n d (take m (drop (8 * n) bytes)))) formulas
     ∙ ap (add_rules server n (record { formulas = fs; rules = [] })) rules
-    ∙ take_rules server fs rs n [] h.4 (omega (arith, h.1))
+    ∙ take_rules server fs rs n [] h.named (omega (arith, h.few_rules))

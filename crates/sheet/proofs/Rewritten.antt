@@ -1,23 +1,22 @@
 -- Bytes that were read are the bytes of what was read. Assumes nothing.
-use Rattle.std.proofs.Common.{◌≡◌, ℕ, zero, suc, ◌+◌, ◌-◌, ◌*◌, ◌/◌, ◌%◌, ◌<◌, ◌≤◌, Bool, true, false, cond, ltb, List, [], ◌∷◌, ◌++◌, map, length, get_or, take, drop, Some, None, Ok, Err, Option, Result, sym, refl, ap, ◌∙◌, append_assoc, append-nil, arith, length-drop, take-append-drop}
+use Rattle.std.proofs.Common.{◌≡◌, ℕ, zero, suc, ◌+◌, ◌-◌, ◌*◌, ◌/◌, ◌%◌, ◌<◌, ◌≤◌, List, [], ◌∷◌, ◌++◌, map, length, get_or, take, drop, Some, None, Ok, Err, Option, Result, sym, refl, ap, ◌∙◌, subst, append_assoc, append-nil, arith, length-drop, take-append-drop}
 use lib.ListN.{length-map}
 use Rattle.std.specs.List.{flat_map, AllByRecursion}
+use Rattle.std.proofs.lemmas.Bool.Decides.{nat_tests}
 use Rattle.std.proofs.lemmas.List.{drop-drop, drop_more, length-take-le}
-use Rattle.std.proofs.lemmas.Bool.{eqb-true, not-false, or_parts}
 use Rattle.sheet.specs.declared.answers.ReadRefusal.{ReadRefusal}
-use Rattle.sheet.specs.declared.answers.ReadRefusal.TheVariants.{Length, Trailer}
 use Rattle.sheet.specs.declared.answers.Refusal.{Refusal}
-use Rattle.sheet.specs.declared.formulas.Fields.{Fields}
+use Rattle.sheet.specs.declared.fields.Fields.{Fields}
 use Rattle.sheet.specs.declared.limits.Limits.{Limits}
-use Rattle.sheet.specs.Bytes.{add_formulas, add_rules, bad_length, bad_trailer, bytes_of, counts, field_bytes, fields_at, fields_from, formula_bytes, formulas_in, pair, place_in, reading, rules_in, then_read, trailer}
+use Rattle.sheet.specs.Bytes.{add_each, add_formulas, add_rules, bytes_of, counts, field_bytes, fields_at, fields_from, formula_bytes, formulas_in, pair, place_in, reading, rules_in, then_read, trailer}
 use Rattle.sheet.specs.Contents.{Contents, empty, with_formula, with_rule}
 use Rattle.sheet.specs.Formulas.{fields_of, formula_of}
 use Rattle.sheet.specs.Refused.{refusal, rule_refusal}
 use Rattle.sheet.proofs.Accepts.{fields_back, taken}
-use Rattle.sheet.proofs.Receives.{formula_on, formula_stops, rule_on, rule_stops}
+use Rattle.sheet.proofs.Receives.{each_on, each_stops}
 
 no_err : {X : Type 0} (e : ReadRefusal) (x : X) → Err e ≡ Ok x → ⊥
-no_err e x h = let z : ◌≡◌ {A = ℕ} 0 1 = cc h in omega arith
+no_err e x h = cc h
 
 -- the formulas and rules that were added
 
@@ -26,35 +25,35 @@ record Brings (c : Contents) (fs : List Fields) (d : Contents) : Type 0 where
   rules : d.rules ≡ c.rules
   back : AllByRecursion (λ f. fields_of (formula_of f) ≡ f) fs
 
+-- what holds of adding nothing, and of adding an item more, holds of what was added
+module _ {X : Type 0} (refuses : Contents → X → Option Refusal) (with : Contents → X → Contents) (d : Contents) (P : Contents → List X → Type 0) (none : P d []) (more : (c : Contents) (x : X) (xs : List X) → refuses c x ≡ None → P (with c x) xs → P c (x ∷ xs)) where
+  each_added : (xs : List X) (p : ℕ) (c : Contents) → add_each refuses with p c xs ≡ Ok d → P c xs
+  each_added [] p c e = let same : d ≡ c = cc e in subst (λ (b : Contents). P b []) same none
+  each_added (x ∷ xs) p c e = go (each_added xs (suc p) (with c x)) (refuses c x) refl
+    where
+      go : (add_each refuses with (suc p) (with c x) xs ≡ Ok d → P (with c x) xs) → (o : Option Refusal) → refuses c x ≡ o → P c (x ∷ xs)
+      go rest None is = more c x xs is (rest (sym (each_on refuses with p c x xs is) ∙ e))
+      go rest (Some r) is = absurd (no_err _ d (sym (each_stops refuses with p c x xs r is) ∙ e))
+
 brings : (limits : Limits) (fs : List Fields) (p : ℕ) (c d : Contents) → add_formulas limits p c fs ≡ Ok d → Brings c fs d
 unfolding add_formulas
-brings limits [] p c d e =
-    let same : c ≡ d = cc e in
-    record { formulas = ap (λ (x : Contents). x.formulas) (sym same) ∙ sym (append-nil c.formulas); rules = ap (λ (x : Contents). x.rules) (sym same); back = tt }
-brings limits (f ∷ fs) p c d e = go (λ q x. brings limits fs q x d) (refusal limits c f) refl
-  where
-    go : ((q : ℕ) (x : Contents) → add_formulas limits q x fs ≡ Ok d → Brings x fs d) → (o : Option Refusal) → refusal limits c f ≡ o → Brings c (f ∷ fs) d
-    go more None is =
-        let rest = more (suc p) (with_formula c (formula_of f)) (sym (formula_on limits p c f fs is) ∙ e) in
-        record {
-          formulas = rest.formulas ∙ append_assoc c.formulas (formula_of f ∷ []) (map formula_of fs);
-          rules = rest.rules;
-          back = (fields_back (length c.formulas) f (taken limits c f is).faultless_there, rest.back);
-        }
-    go more (Some r) is = absurd (no_err _ d (sym (formula_stops limits p c f fs r is) ∙ e))
+brings limits fs p c d =
+    each_added (refusal limits) (λ b f. with_formula b (formula_of f)) d (λ b gs. Brings b gs d)
+    (record { formulas = sym (append-nil d.formulas); rules = refl; back = tt })
+    (λ b f gs is rest. record {
+      formulas = rest.formulas ∙ append_assoc b.formulas (formula_of f ∷ []) (map formula_of gs);
+      rules = rest.rules;
+      back = (fields_back (length b.formulas) f (taken limits b f is).faultless_there, rest.back);
+    })
+    fs p c
 
 brings_rules : (limits : Limits) (ns : List ℕ) (p : ℕ) (c d : Contents) → add_rules limits p c ns ≡ Ok d → (d.formulas ≡ c.formulas) × (d.rules ≡ c.rules ++ ns)
 unfolding add_rules
-brings_rules limits [] p c d e =
-    let same : c ≡ d = cc e in
-    (ap (λ (x : Contents). x.formulas) (sym same), ap (λ (x : Contents). x.rules) (sym same) ∙ sym (append-nil c.rules))
-brings_rules limits (n ∷ ns) p c d e = go (λ q x. brings_rules limits ns q x d) (rule_refusal limits c n) refl
-  where
-    go : ((q : ℕ) (x : Contents) → add_rules limits q x ns ≡ Ok d → (d.formulas ≡ x.formulas) × (d.rules ≡ x.rules ++ ns)) → (o : Option Refusal) → rule_refusal limits c n ≡ o → (d.formulas ≡ c.formulas) × (d.rules ≡ c.rules ++ n ∷ ns)
-    go more None is =
-        let rest = more (suc p) (with_rule c n) (sym (rule_on limits p c n ns is) ∙ e) in
-        (rest.0, rest.1 ∙ append_assoc c.rules (n ∷ []) ns)
-    go more (Some r) is = absurd (no_err _ d (sym (rule_stops limits p c n ns r is) ∙ e))
+brings_rules limits ns p c d =
+    each_added (rule_refusal limits) with_rule d (λ b ms. (d.formulas ≡ b.formulas) × (d.rules ≡ b.rules ++ ms))
+    (refl, sym (append-nil d.rules))
+    (λ b n ms is rest. (rest.0, rest.1 ∙ append_assoc b.rules (n ∷ []) ms))
+    ns p c
 
 same_bytes : (fs : List Fields) → AllByRecursion (λ f. fields_of (formula_of f) ≡ f) fs → flat_map formula_bytes (map formula_of fs) ≡ flat_map field_bytes fs
 same_bytes [] h = refl
@@ -62,26 +61,17 @@ same_bytes (f ∷ fs) h = λ i. field_bytes (h.0 i) ++ same_bytes fs h.1 i
 
 -- the numbers of the trailer
 
-record Sized (bs : List ℕ) (n m : ℕ) : Type 0 where
+pub record Sized (bs : List ℕ) (n m : ℕ) : Type 0 where
   formulas : formulas_in bs ≡ n
   rules : rules_in bs ≡ m
-  long : length bs ≡ 8 * n + m + 4
+  pub long : length bs ≡ 8 * n + m + 4
   place : place_in bs ≡ 8 * n
 
-sized : (bs : List ℕ) (n m : ℕ) → counts bs ≡ Ok (n, m) → Sized bs n m
-sized bs n m = go (bad_length bs) (bad_trailer bs) refl refl
-  where
-    go : (x y : Bool) → bad_length bs ≡ x → bad_trailer bs ≡ y → cond {A = Result (ℕ × ℕ) ReadRefusal} x (Err Length) (cond y (Err Trailer) (Ok (formulas_in bs, rules_in bs))) ≡ Ok (n, m) → Sized bs n m
-    go true y p q e = absurd (no_err Length (n, m) e)
-    go false true p q e = absurd (no_err Trailer (n, m) e)
-    go false false p q e =
-        let parts = or_parts (ltb (length bs) 4) _ p in
-        let long = eqb-true (length bs) (8 * formulas_in bs + rules_in bs + 4) (not-false _ parts.1) in
-        let place = eqb-true (place_in bs) (8 * formulas_in bs) (not-false _ q) in
-        let same : ◌≡◌ {A = ℕ × ℕ} (formulas_in bs, rules_in bs) (n, m) = cc e in
-        let a = ap (λ (x : ℕ × ℕ). x.0) same in
-        let b = ap (λ (x : ℕ × ℕ). x.1) same in
-        record { formulas = a; rules = b; long = omega arith; place = omega arith }
+pub sized : (bs : List ℕ) (n m : ℕ) → counts bs ≡ Ok (n, m) → Sized bs n m
+sized bs n m e =
+    let formulas : formulas_in bs ≡ n = grind (arith, nat_tests) in
+    let rules : rules_in bs ≡ m = grind (arith, nat_tests) in
+    record { formulas = formulas; rules = rules; long = grind (arith, nat_tests); place = grind (arith, nat_tests) }
 
 -- bytes, taken eight at a time
 

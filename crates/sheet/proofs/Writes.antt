@@ -1,8 +1,8 @@
 -- Writing a sheet, piece by piece. Assumes nothing.
-use Rattle.std.proofs.Common.{◌≡◌, ℕ, ◌+◌, ◌*◌, ◌<◌, ◌≤◌, Bool, true, false, leb, List, [], ◌++◌, length, get_or, take, drop, Ok, Err, MatchBool, sym, refl, ap, ◌∙◌, subst₂, append_assoc, arith, length-append}
+use Rattle.std.proofs.Common.{◌≡◌, ℕ, ◌+◌, ◌*◌, ◌<◌, ◌≤◌, List, [], ◌++◌, length, get_or, take, drop, Ok, Err, sym, refl, ap, ◌∙◌, append_assoc, arith, length-append}
 use Rattle.std.specs.List.{flat_map}
-use Rattle.std.proofs.lemmas.List.{drop_at, drop-drop, flat_map_more, take_all, take_at, take_more, length-take-le}
-use Rattle.std.proofs.lemmas.Bool.{false≢true, le-leb, lt-leb, true≢false}
+use Rattle.std.proofs.lemmas.List.{drop_at, drop-drop, flat_map_more, take_at, take_more, length-take-le}
+use Rattle.std.proofs.lemmas.Bool.{le-leb, lt-leb}
 use Rattle.sheet.specs.declared.answers.WriteRefusal.TheVariants.{Short}
 use Rattle.sheet.specs.declared.formulas.Formula.{Formula}
 use Rattle.sheet.specs.declared.formulas.Formula.TheVariants.{Never}
@@ -35,54 +35,29 @@ one_formula fs before i out piece after inv lt is wrote =
     let more : done ++ piece ≡ flat_map formula_bytes (take (i + 1) fs) = ap (λ (l : List ℕ). done ++ l) is ∙ flat_map_more formula_bytes [] (take i fs) (get_or fs i Never) ∙ ap (flat_map formula_bytes) (sym (take_more fs i Never lt)) in
     wrote ∙ ap (λ (l : List ℕ). put_at l (8 * i) piece) inv ∙ put_next done piece before (8 * i) long ∙ λ j. more j ++ drop (size j) before
 
-pub all_formulas : (fs : List Formula) (before : List ℕ) (i : ℕ) (out : List ℕ) → Sofar fs before i out → i ≡ length fs → out ≡ flat_map formula_bytes fs ++ drop (8 * length fs) before
-all_formulas fs before i out inv all =
-    inv ∙ (λ j. flat_map formula_bytes (take (all j) fs) ++ drop (8 * all j) before) ∙ ap (λ (gs : List Formula). flat_map formula_bytes gs ++ drop (8 * length fs) before) (take_all (length fs) fs (omega arith))
-
--- all of it: the formulas, the rules, the trailer
-
-abbrev AllWritten : Contents → ℕ → ℕ → Type 0
-AllWritten c n m =
-    (before one two three rules ends : List ℕ) → rules ≡ c.rules → ends ≡ trailer n m
-    → one ≡ flat_map formula_bytes c.formulas ++ drop (8 * length c.formulas) before → two ≡ put_at one (8 * n) rules → three ≡ put_at two (8 * n + m) ends
-    → (n ≡ length c.formulas) × (m ≡ length c.rules) × (three ≡ bytes_of c ++ drop (8 * n + m + 4) before)
-
-written_there : (c : Contents) → AllWritten c (length c.formulas) (length c.rules)
-written_there c before one two three rules ends isRules isEnds first second third =
-    let n = length c.formulas in
-    let m = length c.rules in
-    let fs = flat_map formula_bytes c.formulas in
-    let long = length-formulas c.formulas in
-    let sum : length (fs ++ c.rules) ≡ 8 * n + m = omega (arith, length-append fs c.rules) in
-    let a : two ≡ (fs ++ c.rules) ++ drop (8 * n + m) before = second ∙ (λ i. put_at (first i) (8 * n) (isRules i)) ∙ put_next fs c.rules before (8 * n) long ∙ ap (λ (k : ℕ). (fs ++ c.rules) ++ drop k before) refl in (
-      refl,
-      refl,
-      third ∙ (λ i. put_at (a i) (8 * n + m) (isEnds i)) ∙ put_next (fs ++ c.rules) (trailer n m) before (8 * n + m) sum
-          ∙ ap (λ (l : List ℕ). l ++ drop (8 * n + m + 4) before) (append_assoc fs c.rules (trailer n m)),
-    )
-
-all_written : (c : Contents) (n m : ℕ) → n ≡ length c.formulas → m ≡ length c.rules → AllWritten c n m
-all_written c n m p q = subst₂ (AllWritten c) (sym p) (sym q) (written_there c)
-
 -- as a contract says it
-
-at_true : (b : Bool) (P Q : Type 0) → b ≡ true → P → MatchBool b P Q
-at_true true P Q e p = p
-at_true false P Q e p = absurd (false≢true e)
-
-at_false : (b : Bool) (P Q : Type 0) → b ≡ false → Q → MatchBool b P Q
-at_false true P Q e q = absurd (true≢false e)
-at_false false P Q e q = q
 
 module _ (c : Contents) (few : length c.formulas ≤ 64) (n m : ℕ) (isN : n ≡ length c.formulas) (isM : m ≡ length c.rules) (before : List ℕ) where
   long : length (bytes_of c) ≡ 8 * n + m + 4
   long = bytes_long c few ∙ omega arith
 
   pub too_short : length before < 8 * n + m + 4 → Written (bytes_of c) before (Err Short) before
-  too_short h = at_false (leb (length (bytes_of c)) (length before)) _ _ (lt-leb (length (bytes_of c)) (length before) (omega (arith, long))) (refl, refl)
+  too_short h = let no = lt-leb (length (bytes_of c)) (length before) (omega (arith, long)) in rw no (refl, refl)
 
+  -- the formulas, the rules, the trailer
   pub fits_in : 8 * n + m + 4 ≤ length before → (one two three rules ends : List ℕ) → rules ≡ c.rules → ends ≡ trailer n m → one ≡ flat_map formula_bytes c.formulas ++ drop (8 * length c.formulas) before → two ≡ put_at one (8 * n) rules → three ≡ put_at two (8 * n + m) ends → Written (bytes_of c) before (Ok (8 * n + m + 4)) three
   fits_in h one two three rules ends isRules isEnds first second third =
-      let all = (all_written c n m isN isM before one two three rules ends isRules isEnds first second third).2 in
-      at_true (leb (length (bytes_of c)) (length before)) _ _ (le-leb (length (bytes_of c)) (length before) (omega (arith, long)))
-      (ap Ok (sym long), all ∙ ap (λ (k : ℕ). bytes_of c ++ drop k before) (sym long))
+      let fs = flat_map formula_bytes c.formulas in
+      let fs_long : length fs ≡ 8 * n = omega (arith, length-formulas c.formulas) in
+      let rules_long : length rules ≡ m = omega (arith, ap length isRules) in
+      let ends_long : length ends ≡ 4 = ap length isEnds in
+      let a : one ≡ fs ++ drop (8 * n) before = first ∙ ap (λ (k : ℕ). fs ++ drop (8 * k) before) (sym isN) in
+      let b : two ≡ (fs ++ rules) ++ drop (8 * n + m) before =
+      second ∙ ap (λ (l : List ℕ). put_at l (8 * n) rules) a ∙ put_next fs rules before (8 * n) fs_long ∙ ap (λ (k : ℕ). (fs ++ rules) ++ drop (8 * n + k) before) rules_long
+      in
+      let d : three ≡ ((fs ++ rules) ++ ends) ++ drop (8 * n + m + 4) before =
+      third ∙ ap (λ (l : List ℕ). put_at l (8 * n + m) ends) b ∙ put_next (fs ++ rules) ends before (8 * n + m) (omega (arith, length-append fs rules)) ∙ ap (λ (k : ℕ). ((fs ++ rules) ++ ends) ++ drop (8 * n + m + k) before) ends_long
+      in
+      let spelt : (fs ++ rules) ++ ends ≡ bytes_of c = append_assoc fs rules ends ∙ λ i. fs ++ (isRules i ++ (isEnds ∙ λ j. trailer (isN j) (isM j)) i) in
+      let yes = le-leb (length (bytes_of c)) (length before) (omega (arith, long)) in
+      rw yes (ap Ok (sym long), d ∙ λ i. spelt i ++ drop (sym long i) before)

@@ -1,11 +1,12 @@
 -- A sheet in bytes. Assumes nothing.
-use Rattle.std.specs.Prelude.{◌≡◌, ℕ, zero, suc, ◌+◌, ◌-◌, ◌*◌, ◌/◌, ◌%◌, ◌^◌, Bool, cond, not, ◌||◌, List, [], ◌∷◌, ◌++◌, length, take, drop, Some, None, Ok, Err, MatchBool, Result, ◌==◌, nat_le, nat_lt, slice_index}
+use Rattle.std.specs.Prelude.{◌≡◌, ℕ, zero, suc, ◌+◌, ◌-◌, ◌*◌, ◌/◌, ◌%◌, ◌^◌, Bool, cond, not, ◌||◌, List, [], ◌∷◌, ◌++◌, length, take, drop, Some, None, Ok, Err, MatchBool, Option, Result, ◌==◌, nat_le, nat_lt, slice_index}
 use Rattle.std.specs.List.{flat_map}
 use Rattle.sheet.specs.declared.answers.ReadRefusal.{ReadRefusal}
 use Rattle.sheet.specs.declared.answers.ReadRefusal.TheVariants.{Length, Trailer, Item}
+use Rattle.sheet.specs.declared.answers.Refusal.{Refusal}
 use Rattle.sheet.specs.declared.answers.WriteRefusal.{WriteRefusal}
 use Rattle.sheet.specs.declared.answers.WriteRefusal.TheVariants.{Short}
-use Rattle.sheet.specs.declared.formulas.Fields.{Fields}
+use Rattle.sheet.specs.declared.fields.Fields.{Fields}
 use Rattle.sheet.specs.declared.formulas.Formula.{Formula}
 use Rattle.sheet.specs.declared.limits.Limits.{Limits}
 use Rattle.sheet.specs.Contents.{Contents, empty, with_formula, with_rule}
@@ -72,6 +73,10 @@ fields_at bs at = record {
   high = slice_index bs (at + 6) * 256 + slice_index bs (at + 7);
 }
 
+-- those in the bytes of a formula
+abbrev pub fields_in : List ℕ → Fields
+fields_in bytes = fields_at bytes 0
+
 -- those of n formulas, from a place on
 unfoldable pub fields_from : ℕ → List ℕ → ℕ → List Fields
 fields_from zero bs at = []
@@ -79,15 +84,15 @@ fields_from (suc n) bs at = fields_at bs at ∷ fields_from n bs (at + 8)
 
 -- items are added in order, the first at a place, until one is refused
 
+abbrev pub add_each : {X : Type 0} → (Contents → X → Option Refusal) → (Contents → X → Contents) → ℕ → Contents → List X → Result Contents ReadRefusal
+add_each refuses with place c [] = Ok c
+add_each refuses with place c (x ∷ xs) = elim (refuses c x) [ None ↦ add_each refuses with (suc place) (with c x) xs | Some r ↦ Err (Item place r) ]
+
 unfoldable pub add_formulas : Limits → ℕ → Contents → List Fields → Result Contents ReadRefusal
-add_formulas limits place c [] = Ok c
-add_formulas limits place c (f ∷ fs) =
-    elim (refusal limits c f) [ None ↦ add_formulas limits (suc place) (with_formula c (formula_of f)) fs | Some r ↦ Err (Item place r) ]
+add_formulas limits place c fs = add_each (refusal limits) (λ d f. with_formula d (formula_of f)) place c fs
 
 unfoldable pub add_rules : Limits → ℕ → Contents → List ℕ → Result Contents ReadRefusal
-add_rules limits place c [] = Ok c
-add_rules limits place c (n ∷ ns) =
-    elim (rule_refusal limits c n) [ None ↦ add_rules limits (suc place) (with_rule c n) ns | Some r ↦ Err (Item place r) ]
+add_rules limits place c ns = add_each (rule_refusal limits) with_rule place c ns
 
 -- one step where the step before succeeded
 abbrev pub then_read : {X : Type 0} → Result X ReadRefusal → (X → Result Contents ReadRefusal) → Result Contents ReadRefusal

@@ -28,7 +28,9 @@ abbrev pub EachNamed : List Formula → List ℕ → Type 0
 EachNamed formulas rules = (i : ℕ) → i < length rules → slice_index rules i < length formulas
 
 -- formulas and rules that may stand on a sheet: few of each, all lawful, at few cells
-abbrev pub Conditions : Limits → List Formula → List ℕ → Type 0
-Conditions limits formulas rules =
-    (length formulas ≤ limits.formulas) × (length rules ≤ limits.rules) × (total formulas ≤ limits.cells)
-    × EachLawful formulas × EachNamed formulas rules
+pub record Conditions (limits : Limits) (formulas : List Formula) (rules : List ℕ) : Type 0 where
+  pub few_formulas : length formulas ≤ limits.formulas
+  pub few_rules : length rules ≤ limits.rules
+  pub cheap : total formulas ≤ limits.cells
+  pub lawful : EachLawful formulas
+  pub named : EachNamed formulas rules

@@ -20,6 +20,7 @@ with_formula c f = record { formulas = c.formulas ++ f ∷ []; rules = c.rules }
 abbrev pub with_rule : Contents → ℕ → Contents
 with_rule c r = record { formulas = c.formulas; rules = c.rules ++ r ∷ [] }
 
+-- a sheet has no model, which would hide from the crates above that it obeys its conditions
 abbrev pub of : Sheet → Contents
 of s = record { formulas = vec_items s.formulas; rules = vec_items s.rules }
 

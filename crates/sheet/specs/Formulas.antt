@@ -1,9 +1,9 @@
 -- Formulas: what they are made of, what they cost, how far back they reach. Assumes nothing.
 use Rattle.std.specs.Prelude.{ℕ, ◌+◌, ◌-◌, max, cond, ◌||◌, List, [], ◌∷◌, ◌++◌, Some, None, Option, ◌==◌, nat_le, slice_index_or}
 use Rattle.std.specs.Option.{unwrap_or}
-use Rattle.sheet.specs.declared.formulas.Fields.{Fields}
+use Rattle.sheet.specs.declared.fields.Fields.{Fields}
 use Rattle.sheet.specs.declared.formulas.Formula.{Formula}
-use Rattle.sheet.specs.declared.formulas.Used.{Used}
+use Rattle.sheet.specs.declared.kinds.Used.{Used}
 use Rattle.sheet.specs.declared.formulas.Formula.TheVariants.{Never, Mark, Not, Or, Previous, Since, Count}
 use Rattle.sheet.specs.declared.windows.Window.{Window}
 use Rattle.sheet.specs.declared.windows.Window.TheVariants.{Closed, Open}

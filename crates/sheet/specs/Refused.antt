@@ -1,9 +1,9 @@
 -- What is refused, and why: the first of the reasons that applies, in the order of their numbers.
 -- Assumes nothing.
-use Rattle.std.specs.Prelude.{ℕ, ◌+◌, Bool, cond, not, ◌&&◌, ◌||◌, length, is_some, Some, None, Option, ◌==◌, nat_le, nat_lt}
+use Rattle.std.specs.Prelude.{ℕ, ◌+◌, Bool, cond, not, ◌&&◌, ◌||◌, length, is_some, Some, None, Ok, Err, Option, Result, ◌==◌, nat_le, nat_lt}
 use Rattle.sheet.specs.declared.answers.Refusal.{Refusal}
 use Rattle.sheet.specs.declared.answers.Refusal.TheVariants.{Full, Kind, Spare, Mark, Forward, Window, Scale, Cells}
-use Rattle.sheet.specs.declared.formulas.Fields.{Fields}
+use Rattle.sheet.specs.declared.fields.Fields.{Fields}
 use Rattle.sheet.specs.declared.limits.Limits.{Limits}
 use Rattle.sheet.specs.Contents.{Contents}
 use Rattle.sheet.specs.Formulas.{used, formula_of, cells_of, total}
@@ -35,6 +35,11 @@ fault n f =
     (cond (forward n f) (Some Forward)
     (cond (unwindowed f) (Some Window)
     (cond (nat_lt 7 f.scale) (Some Scale) None)))))
+
+-- something, unless it is refused
+abbrev pub unless : {X : Type 0} → Option Refusal → X → Result X Refusal
+unless None x = Ok x
+unless (Some r) x = Err r
 
 abbrev pub or_else : Option Refusal → Option Refusal → Option Refusal
 or_else None y = y

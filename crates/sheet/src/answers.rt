@@ -4,42 +4,32 @@ ghost use Rattle.sheet.specs.Codes.{number, read_fault, short_number};
 
 use line::Fault;
 
-// Why a formula or a rule is not taken.
+// Why a formula or a rule is not taken. Each case stands for its service number.
 #[derive(Clone, Copy, PartialEq, Eq, Debug)]
 pub enum Refusal {
     // The sheet has no place for it.
-    Full,
+    Full = 11,
     // No such kind of formula.
-    Kind,
+    Kind = 12,
     // A field that the kind does not use is not 0.
-    Spare,
+    Spare = 13,
     // No such known mark.
-    Mark,
+    Mark = 14,
     // It names a formula that is not there yet.
-    Forward,
+    Forward = 15,
     // Low and high are no window.
-    Window,
+    Window = 16,
     // No such scale.
-    Scale,
+    Scale = 17,
     // The sheet would cost too many cells.
-    Cells,
+    Cells = 18,
 }
 
-impl Refusal {
-    // The service number.
-    pub fn code(self) -> u8
-        ensures { result ≡ number self }
-    {
-        match self {
-            Refusal::Full => 11,
-            Refusal::Kind => 12,
-            Refusal::Spare => 13,
-            Refusal::Mark => 14,
-            Refusal::Forward => 15,
-            Refusal::Window => 16,
-            Refusal::Scale => 17,
-            Refusal::Cells => 18,
-        }
+impl From<Refusal> for u8 {
+    ghost from_gives = { λ refusal code. code ≡ number refusal };
+
+    fn from(refusal: Refusal) -> u8 {
+        refusal as u8
     }
 }
 
@@ -54,12 +44,12 @@ pub enum ReadRefusal {
     Item { place: u16, refusal: Refusal },
 }
 
-impl ReadRefusal {
-    // The fault that tells it: layer 1 for the bytes, layer 2 for an item.
-    pub fn fault(self) -> Fault
-        ensures { result ≡ read_fault self }
-    {
-        match self {
+// Layer 1 tells of the bytes, layer 2 of an item.
+impl From<ReadRefusal> for Fault {
+    ghost from_gives = { λ refusal fault. fault ≡ read_fault refusal };
+
+    fn from(refusal: ReadRefusal) -> Fault {
+        match refusal {
             ReadRefusal::Length => Fault {
                 layer: 1,
                 number: 21,
@@ -72,27 +62,24 @@ impl ReadRefusal {
             },
             ReadRefusal::Item { place, refusal } => Fault {
                 layer: 2,
-                number: refusal.code(),
+                number: u8::from(refusal),
                 place: u64::from(place),
             },
         }
     }
 }
 
-// Why a sheet is not written.
+// Why a sheet is not written. Each case stands for its service number.
 #[derive(Clone, Copy, PartialEq, Eq, Debug)]
 pub enum WriteRefusal {
     // The buffer is too short for it.
-    Short,
+    Short = 23,
 }
 
-impl WriteRefusal {
-    // The service number.
-    pub fn code(self) -> u8
-        ensures { result ≡ short_number self }
-    {
-        match self {
-            WriteRefusal::Short => 23,
-        }
+impl From<WriteRefusal> for u8 {
+    ghost from_gives = { λ refusal code. code ≡ short_number refusal };
+
+    fn from(refusal: WriteRefusal) -> u8 {
+        refusal as u8
     }
 }

@@ -2,14 +2,17 @@
 #![tactic(auto)]
 
 pub mod answers;
+mod fields;
 mod formulas;
+mod kinds;
 mod limits;
 mod refused;
 mod sheets;
 mod windows;
 
 pub use answers::{ReadRefusal, Refusal, WriteRefusal};
-pub use formulas::{Fields, Formula};
+pub use fields::Fields;
+pub use formulas::Formula;
 pub use limits::{Limits, SERVER};
 pub use sheets::Sheet;
 pub use windows::Window;

@@ -14,7 +14,8 @@ use crate::formulas::Formula;
 #[derive(Drop)]
 pub struct Sheet {
     formulas: Vec<Formula>,
-    // The reach of each formula.
+    // The reach of each formula. It stands beside them and not with them, since the formulas are lent as
+    // one slice.
     reaches: Vec<Option<u32>>,
     rules: Vec<u8>,
     // What the formulas cost.
@@ -22,5 +23,7 @@ pub struct Sheet {
     ghost lawful: { Conditions server formulas.items rules.items },
     ghost reaching: { reaches.items ≡ reaches_of formulas.items },
     ghost costing: { cells ≡ total formulas.items },
-    ghost room: { (64 ≤ vec_capacity formulas) × (64 ≤ vec_capacity reaches) × (8 ≤ vec_capacity rules) },
+    ghost formulas_room: { 64 ≤ vec_capacity formulas },
+    ghost reaches_room: { 64 ≤ vec_capacity reaches },
+    ghost rules_room: { 8 ≤ vec_capacity rules },
 }

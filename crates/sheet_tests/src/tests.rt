@@ -39,6 +39,6 @@ fn third(heap: std::alloc::Global, f: Fields) -> Result<u8, Fail> {
     sheet.add(fields(1, 25, 0, 0, 0, 0))?;
     match sheet.add(f) {
         Ok(()) => Ok(0),
-        Err(refusal) => Ok(refusal.code()),
+        Err(refusal) => Ok(u8::from(refusal)),
     }
 }

@@ -7,9 +7,10 @@ ghost use Rattle.sheet.specs.Refused as refused;
 
 use super::Sheet;
 use crate::answers::Refusal;
-use crate::formulas::{Fields, Formula};
+use crate::fields::Fields;
+use crate::formulas::Formula;
 use crate::limits::SERVER;
-use crate::refused::fault;
+use crate::refused::formula;
 use std::alloc::{AllocError, Global};
 
 impl Sheet {
@@ -28,31 +29,26 @@ impl Sheet {
         })
     }
 
-    // Why fields are not taken as the next formula.
-    fn refusal(&self, f: Fields) -> Option<Refusal>
-        ensures { result ≡ refused.refusal server (contents.of self.now) f }
+    // The next formula that fields are, or why they are not taken.
+    fn next_formula(&self, f: Fields) -> Result<Formula, Refusal>
+        ensures { result ≡ refused.unless (refused.refusal server (contents.of self.now) f) (formula_of f) }
     {
         let n = self.formulas.len();
         if n >= SERVER.formulas {
-            return Some(Refusal::Full);
+            return Err(Refusal::Full);
         }
-        if let Some(refusal) = fault(n, f) {
-            return Some(refusal);
+        let formula = formula(n, f)?;
+        if self.cells + formula.cells() > SERVER.cells {
+            return Err(Refusal::Cells);
         }
-        if self.cells + Formula::of(f).cells() > SERVER.cells {
-            return Some(Refusal::Cells);
-        }
-        None
+        Ok(formula)
     }
 
     // Takes the fields as the next formula, or tells why not.
     pub fn add(&mut self, f: Fields) -> Result<(), Refusal>
         ensures { contents.Added (refused.refusal server (contents.of self.old) f) result (contents.of self.old) (contents.with_formula (contents.of self.old) (formula_of f)) (contents.of self.new) }
     {
-        if let Some(refusal) = self.refusal(f) {
-            return Err(refusal);
-        }
-        let formula = Formula::of(f);
+        let formula = self.next_formula(f)?;
         let reach = self.reach_of(formula);
         self.reaches.push_reserved(reach);
         self.formulas.push_reserved(formula);
@@ -61,13 +57,14 @@ impl Sheet {
     }
 
     // Takes the number of a formula as the next rule, or tells why not.
+    #[tactic(auto, using(crate::proofs::Grows::told_no_rule, crate::proofs::Accepts::with_rule_lem))]
     pub fn add_rule(&mut self, n: u8) -> Result<(), Refusal>
         ensures { contents.Added (refused.rule_refusal server (contents.of self.old) n) result (contents.of self.old) (contents.with_rule (contents.of self.old) n) (contents.of self.new) }
     {
         if self.rules.len() >= SERVER.rules {
             return Err(Refusal::Full);
         }
-        if n as usize >= self.formulas.len() {
+        if usize::from(n) >= self.formulas.len() {
             return Err(Refusal::Forward);
         }
         self.rules.push_reserved(n);

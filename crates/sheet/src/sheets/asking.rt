@@ -34,35 +34,31 @@ impl Sheet {
     pub fn reach(&self, n: usize) -> Option<u32>
         ensures { result ≡ reach_among (contents.of self.now).formulas n }
     {
-        match self.reaches.get(n) {
-            Some(reach) => *reach,
-            None => None,
-        }
+        self.reaches.get(n).copied().flatten()
     }
 
     // The reach of a rule, which is that of its formula. A number that is not there has none.
     pub fn rule_reach(&self, k: usize) -> Option<u32>
         ensures { result ≡ rule_reach (contents.of self.now) k }
     {
-        match self.rules.get(k) {
-            Some(n) => self.reach(*n as usize),
-            None => None,
-        }
+        let n = self.rules.get(k)?;
+        self.reach(usize::from(*n))
     }
 
     // The reach of a formula that could come next.
+    #[tactic(auto, using(crate::proofs::Near::short_reach, crate::proofs::Near::short_greater))]
     pub(super) fn reach_of(&self, f: Formula) -> Option<u32>
         ensures { result ≡ reach_of (reaches_of (contents.of self.now).formulas) f }
     {
         match f {
             Formula::Never | Formula::Mark { .. } => Some(0),
-            Formula::Not { a } => self.reach(a as usize),
-            Formula::Or { a, b } => greater(self.reach(a as usize), self.reach(b as usize)),
-            Formula::Previous { a, window } => beyond(window, self.reach(a as usize)),
+            Formula::Not { a } => self.reach(usize::from(a)),
+            Formula::Or { a, b } => greater(self.reach(usize::from(a)), self.reach(usize::from(b))),
+            Formula::Previous { a, window } => beyond(window, self.reach(usize::from(a))),
             Formula::Since { a, b, window } | Formula::Count { a, b, window, .. } => {
                 beyond(
                     window,
-                    greater(self.reach(a as usize), self.reach(b as usize)),
+                    greater(self.reach(usize::from(a)), self.reach(usize::from(b))),
                 )
             }
         }
@@ -72,10 +68,7 @@ impl Sheet {
 fn greater(x: Option<u32>, y: Option<u32>) -> Option<u32>
     ensures { result ≡ greater_of x y }
 {
-    match (x, y) {
-        (Some(x), Some(y)) => Some(x.max(y)),
-        _ => None,
-    }
+    Some(x?.max(y?))
 }
 
 // A window lets a reach begin where its longest gap ends; an open one has no such gap.
@@ -83,10 +76,9 @@ fn beyond(window: Window, reach: Option<u32>) -> Option<u32>
     requires { IfSome reach (λ r. r ≤ 2000000) }
     ensures { result ≡ beyond_of window reach }
 {
-    match (window, reach) {
-        (Window::Closed { high, .. }, Some(reach)) => Some(
-            u32::from(high.saturating_sub(1)) + reach,
-        ),
-        _ => None,
+    let reach = reach?;
+    match window {
+        Window::Closed { high, .. } => Some(u32::from(high.saturating_sub(1)) + reach),
+        Window::Open { .. } => None,
     }
 }

@@ -1,5 +1,5 @@
 // A sheet in bytes: formulas of eight bytes, rules of one, and a trailer of four.
-ghost use Rattle.std.specs.Prelude.{◌≡◌, ◌+◌, ◌*◌, ◌<◌, ◌≤◌, ◌++◌, length, take, drop, Ok};
+ghost use Rattle.std.specs.Prelude.{◌≡◌, ◌+◌, ◌*◌, ◌<◌, ◌≤◌, ◌++◌, length, map, take, drop, Ok};
 ghost use Rattle.std.specs.List.{flat_map};
 ghost use Rattle.sheet.specs.Bytes as layout;
 ghost use Rattle.sheet.specs.Conditions.{Conditions, server};
@@ -7,49 +7,23 @@ ghost use Rattle.sheet.specs.Contents as contents;
 
 use super::Sheet;
 use crate::answers::{ReadRefusal, WriteRefusal};
-use crate::formulas::{Fields, Formula};
+use crate::fields::Fields;
 
 // How many formulas and rules sound bytes hold.
 fn counts(bytes: &[u8]) -> Result<(usize, usize), ReadRefusal>
     ensures { result ≡ layout.counts bytes.now }
 {
-    let len = bytes.len();
-    if len < 4 {
+    let (items, trailer) = bytes.split_last_chunk::<4>().ok_or(ReadRefusal::Length)?;
+    let [formulas, rules, high, low] = *trailer;
+    let formulas = usize::from(formulas);
+    let rules = usize::from(rules);
+    if items.len() != 8 * formulas + rules {
         return Err(ReadRefusal::Length);
     }
-    let formulas = bytes[len - 4] as usize;
-    let rules = bytes[len - 3] as usize;
-    if len != 8 * formulas + rules + 4 {
-        return Err(ReadRefusal::Length);
-    }
-    if bytes[len - 2] as usize * 256 + bytes[len - 1] as usize != 8 * formulas {
+    if usize::from(u16::from_be_bytes([high, low])) != 8 * formulas {
         return Err(ReadRefusal::Trailer);
     }
     Ok((formulas, rules))
-}
-
-// The raw fields at a place.
-fn fields_at(bytes: &[u8], at: usize) -> Fields
-    requires { at + 8 ≤ length bytes.now }
-    ensures { result ≡ layout.fields_at bytes.now at }
-{
-    Fields {
-        kind: bytes[at],
-        a: bytes[at + 1],
-        b: bytes[at + 2],
-        scale: bytes[at + 3],
-        low: u16::from_be_bytes([bytes[at + 4], bytes[at + 5]]),
-        high: u16::from_be_bytes([bytes[at + 6], bytes[at + 7]]),
-    }
-}
-
-fn formula_bytes(formula: Formula) -> [u8; 8]
-    ensures { result ≡ layout.formula_bytes formula }
-{
-    let f = formula.fields();
-    let [l0, l1] = f.low.to_be_bytes();
-    let [h0, h1] = f.high.to_be_bytes();
-    [f.kind, f.a, f.b, f.scale, l0, l1, h0, h1]
 }
 
 fn trailer(formulas: u8, rules: u8) -> [u8; 4]
@@ -77,36 +51,30 @@ impl Sheet {
         self.cells = 0;
     }
 
-    // Adds the first `n` formulas of the bytes, until one is refused.
-    fn add_formulas(&mut self, bytes: &[u8], n: usize) -> Result<(), ReadRefusal>
-        requires { (8 * n ≤ length bytes.now) × (n < 256) }
-        ensures { layout.Brought (layout.add_formulas server 0 (contents.of self.old) (layout.fields_from n bytes.now 0)) result (contents.of self.new) }
+    // Adds the formulas that bytes hold, eight each, until one is refused.
+    fn add_formulas(&mut self, formulas: &[[u8; 8]]) -> Result<(), ReadRefusal>
+        requires { length formulas.now < 256 }
+        ensures { layout.Brought (layout.add_formulas server 0 (contents.of self.old) (map layout.fields_in formulas.now)) result (contents.of self.new) }
     {
-        for i in 0..n {
-            match self.add(fields_at(bytes, 8 * i)) {
-                Ok(()) => {}
-                Err(refusal) => return Err(ReadRefusal::Item {
-                    place: i as u16,
-                    refusal,
-                }),
-            }
+        for (i, bytes) in formulas.iter().enumerate() {
+            let place = i as u16;
+            self.add(Fields::from(*bytes))
+                .map_err(|refusal| ReadRefusal::Item { place, refusal })?;
         }
         Ok(())
     }
 
-    // Adds the rules, the first of which is the item at a place, until one is refused.
+    // Adds the rules, the first of which is the item at a place, until one is refused. One loop for both
+    // would need a trait with an impl for formulas and one for rules, longer than the two loops.
     fn add_rules(&mut self, rules: &[u8], first: usize) -> Result<(), ReadRefusal>
-        requires { (first < 256) × (length rules.now < 256) }
+        requires first { first < 256 }
+        requires few { length rules.now < 256 }
         ensures { layout.Brought (layout.add_rules server first (contents.of self.old) rules.now) result (contents.of self.new) }
     {
         for (i, n) in rules.iter().enumerate() {
-            match self.add_rule(*n) {
-                Ok(()) => {}
-                Err(refusal) => return Err(ReadRefusal::Item {
-                    place: (first + i) as u16,
-                    refusal,
-                }),
-            }
+            let place = (first + i) as u16;
+            self.add_rule(*n)
+                .map_err(|refusal| ReadRefusal::Item { place, refusal })?;
         }
         Ok(())
     }
@@ -118,7 +86,8 @@ impl Sheet {
     {
         let (formulas, rules) = counts(bytes)?;
         let start = 8 * formulas;
-        self.add_formulas(bytes, formulas)?;
+        let (chunks, _) = bytes[..start].as_chunks();
+        self.add_formulas(chunks)?;
         self.add_rules(&bytes[start..start + rules], formulas)
     }
 
@@ -138,13 +107,15 @@ impl Sheet {
         answer
     }
 
-    // Writes the formulas to the front of a buffer that has room for them.
+    // Writes the formulas to the front of a buffer that has room for them. Each is put at its place, since
+    // of a buffer that was lent in chunks no proof knows what it holds afterwards.
     fn write_formulas(&self, out: &mut [u8])
         requires { 8 * length (contents.of self.now).formulas ≤ length out.old }
         ensures { out.new ≡ flat_map layout.formula_bytes (contents.of self.now).formulas ++ drop (8 * length (contents.of self.now).formulas) out.old }
     {
         for (i, formula) in self.formulas.iter().enumerate() {
-            put(out, 8 * i, &formula_bytes(*formula));
+            let bytes: [u8; 8] = Fields::from(*formula).into();
+            put(out, 8 * i, &bytes);
         }
     }
 

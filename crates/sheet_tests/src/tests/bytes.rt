@@ -20,7 +20,7 @@ fn bench_is_written(rt: HostRuntime) -> Result<(), Fail> {
     assert_eq!(rt; sheet.write(&mut out), Ok(62));
     assert!(rt; out[0..62] == BENCH[0..62]);
     assert_eq!(rt; out[62], 9);
-    assert_eq!(rt; WriteRefusal::Short.code(), 23);
+    assert_eq!(rt; u8::from(WriteRefusal::Short), 23);
     Ok(())
 }
 
@@ -47,7 +47,7 @@ fn told(rt: &impl Abort, heap: std::alloc::Global, bytes: &[u8]) -> Result<Fault
     assert_eq!(rt; sheet.formulas().len(), 0);
     assert_eq!(rt; sheet.rules().len(), 0);
     assert_eq!(rt; sheet.cells(), 0);
-    Ok(refusal.fault())
+    Ok(Fault::from(refusal))
 }
 
 fn fault(layer: u8, number: u8, place: u64) -> Fault {
@@ -88,11 +88,10 @@ fn items(rt: HostRuntime) -> Result<(), Fail> {
     many[523] = 8;
     assert_eq!(rt; told(&rt, rt.alloc(), &many)?, fault(2, 11, 64));
     assert_eq!(rt;
-        ReadRefusal::Item {
+        Fault::from(ReadRefusal::Item {
             place: 3,
             refusal: Refusal::Cells,
-        }
-        .fault(),
+        }),
         fault(2, 18, 3)
     );
     Ok(())
