@@ -21,7 +21,8 @@ const LONGEST: usize = 1_024;
 
 // Takes lines from the feed until it ends, and tells its ending; or one line more than are judged.
 fn take_lines<F: Feed>(feed: &mut F, log: &mut Vec<Line>) -> Option<Ending>
-    requires { (1025 ≤ vec_capacity log.old) × (vec_len log.old ≤ 1025) }
+    requires room { 1025 ≤ vec_capacity log.old }
+    requires few { vec_len log.old ≤ 1025 }
     ensures lines { log.new.items ++ F.lines feed.new ≡ log.old.items ++ F.lines feed.old }
     ensures ending { MatchOption result (vec_len log.new ≡ 1025) (λ e. (e ≡ F.ending feed.old) × (F.lines feed.new ≡ [])) }
 {
@@ -35,42 +36,44 @@ fn take_lines<F: Feed>(feed: &mut F, log: &mut Vec<Line>) -> Option<Ending>
 }
 
 // How many lines come before the first whose time is before that of the line before it.
+#[tactic(auto, using(crate::proofs::Walks::from_start))]
 fn risen(log: &[Line]) -> usize
     ensures value { result ≡ held.risen log.now }
     ensures bound { result ≤ length log.now }
 {
-    for i in 1..log.len() {
-        if log[i].time < log[i - 1].time {
+    let mut last = 0;
+    for (i, line) in log.iter().enumerate() {
+        if line.time < last {
             return i;
         }
+        last = line.time;
     }
     log.len()
 }
 
 // Whether nothing before the log can change what the rule says at the place.
 fn settled(sheet: &Sheet, log: &[Line], rule: usize, place: usize) -> bool
-    requires { (1 ≤ place) × (place ≤ length log.now) }
+    requires from { 1 ≤ place }
+    requires to { place ≤ length log.now }
     ensures { result ≡ held.settled (contents.rule_reach (contents.of sheet.now) rule) log.now place }
 {
-    match sheet.rule_reach(rule) {
-        Some(reach) => log[place - 1].time.saturating_sub(log[0].time) > reach,
-        None => false,
-    }
+    let Some(reach) = sheet.rule_reach(rule) else {
+        return false;
+    };
+    log[place - 1].time.saturating_sub(log[0].time) > reach
 }
 
 // Prints the time of a place, the verdict digits of the rules, and the settled digits.
 fn print_place(rt: &impl Print, bench: &Bench, log: &[Line], place: usize) -> io::Result<()>
-    requires { (1 ≤ place) × (place ≤ length log.now) }
+    requires from { 1 ≤ place }
+    requires to { place ≤ length log.now }
 {
     let time = log[place - 1].time;
     print!(rt; "{time} ")?;
     let rules = bench.sheet.rules();
     for rule in rules {
         let verdict = judge(&bench.sheet, &bench.scales, log, usize::from(*rule), place);
-        let digit = match verdict {
-            Ok(true) => 1,
-            _ => 0,
-        };
+        let digit = u8::from(verdict == Ok(true));
         print!(rt; "{digit}")?;
     }
     print!(rt; " ")?;
@@ -104,7 +107,7 @@ fn main(rt: HostRuntime) -> io::Result<()> {
         return println!(rt; "refused {number}");
     }
     let log = &lines.as_slice()[..count];
-    for place in 1..count + 1 {
+    for place in 1..=count {
         print_place(&rt, &bench, log, place)?;
     }
     if count < lines.len() {
