@@ -77,18 +77,12 @@ fn print_place(rt: &impl Print, bench: &Bench, log: &[Line], place: usize) -> io
         print!(rt; "{digit}")?;
     }
     print!(rt; " ")?;
+    // A rule is asked for by its number, and nothing is indexed.
     for k in 0..rules.len() {
         let digit = u8::from(settled(&bench.sheet, log, k, place));
         print!(rt; "{digit}")?;
     }
     println!(rt; "")
-}
-
-fn print_stop(rt: &impl Print, fault: Fault) -> io::Result<()> {
-    let layer = fault.layer;
-    let number = fault.number;
-    let place = fault.place;
-    println!(rt; "stop {layer} {number} {place}")
 }
 
 fn main(rt: HostRuntime) -> io::Result<()> {
@@ -103,7 +97,7 @@ fn main(rt: HostRuntime) -> io::Result<()> {
     let ending = take_lines(&mut feed, &mut lines);
     let count = risen(lines.as_slice());
     if count > LONGEST {
-        let number = Refusal::Long.code();
+        let number = u8::from(Refusal::Long);
         return println!(rt; "refused {number}");
     }
     let log = &lines.as_slice()[..count];
@@ -113,13 +107,13 @@ fn main(rt: HostRuntime) -> io::Result<()> {
     if count < lines.len() {
         let fault = Fault {
             layer: 5,
-            number: Refusal::Backward.code(),
+            number: u8::from(Refusal::Backward),
             place: count as u64,
         };
-        return print_stop(&rt, fault);
+        return println!(rt; "stop {fault}");
     }
     match ending {
-        Some(Ending::Fault(fault)) => print_stop(&rt, fault),
+        Some(Ending::Fault(fault)) => println!(rt; "stop {fault}"),
         _ => println!(rt; "end {count}"),
     }
 }

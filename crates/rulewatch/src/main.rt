@@ -38,11 +38,6 @@ fn main(rt: HostRuntime) -> io::Result<()> {
     let mut feed = TextFeed::new(log.as_slice());
     match print_lines(&rt, &mut feed)? {
         (count, Ending::Clean) => println!(rt; "end {count}"),
-        (_, Ending::Fault(fault)) => {
-            let layer = fault.layer;
-            let number = fault.number;
-            let place = fault.place;
-            println!(rt; "stop {layer} {number} {place}")
-        }
+        (_, Ending::Fault(fault)) => println!(rt; "stop {fault}"),
     }
 }
