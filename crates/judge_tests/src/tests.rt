@@ -11,9 +11,14 @@ fn line(time: u32, marks: u32) -> Line {
     Line { time, marks }
 }
 
-// What is told of the formula, on a sheet with `mark 0` alone: 1 for true, 0 for false, or the
-// number of the refusal.
-fn told(heap: std::alloc::Global, log: &[Line], formula: usize, place: usize) -> Result<u8, Fail> {
+// What is told of the formula, on a sheet with `mark 0` alone: whether it holds, or the number of the
+// refusal.
+fn told(
+    heap: std::alloc::Global,
+    log: &[Line],
+    formula: usize,
+    place: usize,
+) -> Result<Result<bool, u8>, Fail> {
     let mut sheet = Sheet::new(heap)?;
     sheet.add(Fields {
         kind: 1,
@@ -23,8 +28,5 @@ fn told(heap: std::alloc::Global, log: &[Line], formula: usize, place: usize) ->
         low: 0,
         high: 0,
     })?;
-    match judge(&sheet, &scales::limits()?, log, formula, place) {
-        Ok(answer) => Ok(u8::from(answer)),
-        Err(refusal) => Ok(u8::from(refusal)),
-    }
+    Ok(judge(&sheet, &scales::limits()?, log, formula, place).map_err(u8::from))
 }

@@ -32,13 +32,11 @@ fn bench(heap: std::alloc::Global) -> Result<Sheet, Fail> {
     Ok(sheet)
 }
 
-// What a sheet of two formulas, `never` and `mark 25`, says to a third.
-fn third(heap: std::alloc::Global, f: Fields) -> Result<u8, Fail> {
+// What a sheet of two formulas, `never` and `mark 25`, says to a third: it is taken, or the number of
+// the refusal.
+fn third(heap: std::alloc::Global, f: Fields) -> Result<Result<(), u8>, Fail> {
     let mut sheet = Sheet::new(heap)?;
     sheet.add(fields(0, 0, 0, 0, 0, 0))?;
     sheet.add(fields(1, 25, 0, 0, 0, 0))?;
-    match sheet.add(f) {
-        Ok(()) => Ok(0),
-        Err(refusal) => Ok(u8::from(refusal)),
-    }
+    Ok(sheet.add(f).map_err(u8::from))
 }

@@ -17,42 +17,42 @@ fn bench_costs_and_reaches(rt: HostRuntime) -> Result<(), Fail> {
 
 #[test]
 fn kinds_and_marks(rt: HostRuntime) -> Result<(), Fail> {
-    assert_eq!(rt; third(rt.alloc(), fields(7, 0, 0, 0, 0, 0))?, 12);
-    assert_eq!(rt; third(rt.alloc(), fields(6, 0, 1, 0, 0, 1))?, 0);
-    assert_eq!(rt; third(rt.alloc(), fields(0, 1, 0, 0, 0, 0))?, 13);
-    assert_eq!(rt; third(rt.alloc(), fields(1, 0, 1, 0, 0, 0))?, 13);
-    assert_eq!(rt; third(rt.alloc(), fields(3, 0, 0, 1, 0, 0))?, 13);
-    assert_eq!(rt; third(rt.alloc(), fields(3, 0, 0, 0, 0, 1))?, 13);
-    assert_eq!(rt; third(rt.alloc(), fields(4, 0, 0, 1, 0, 1))?, 13);
-    assert_eq!(rt; third(rt.alloc(), fields(1, 26, 0, 0, 0, 0))?, 14);
-    assert_eq!(rt; third(rt.alloc(), fields(2, 1, 0, 0, 0, 0))?, 0);
-    assert_eq!(rt; third(rt.alloc(), fields(2, 2, 0, 0, 0, 0))?, 15);
-    assert_eq!(rt; third(rt.alloc(), fields(3, 0, 2, 0, 0, 0))?, 15);
+    assert_eq!(rt; third(rt.alloc(), fields(7, 0, 0, 0, 0, 0))?, Err(12));
+    assert_eq!(rt; third(rt.alloc(), fields(6, 0, 1, 0, 0, 1))?, Ok(()));
+    assert_eq!(rt; third(rt.alloc(), fields(0, 1, 0, 0, 0, 0))?, Err(13));
+    assert_eq!(rt; third(rt.alloc(), fields(1, 0, 1, 0, 0, 0))?, Err(13));
+    assert_eq!(rt; third(rt.alloc(), fields(3, 0, 0, 1, 0, 0))?, Err(13));
+    assert_eq!(rt; third(rt.alloc(), fields(3, 0, 0, 0, 0, 1))?, Err(13));
+    assert_eq!(rt; third(rt.alloc(), fields(4, 0, 0, 1, 0, 1))?, Err(13));
+    assert_eq!(rt; third(rt.alloc(), fields(1, 26, 0, 0, 0, 0))?, Err(14));
+    assert_eq!(rt; third(rt.alloc(), fields(2, 1, 0, 0, 0, 0))?, Ok(()));
+    assert_eq!(rt; third(rt.alloc(), fields(2, 2, 0, 0, 0, 0))?, Err(15));
+    assert_eq!(rt; third(rt.alloc(), fields(3, 0, 2, 0, 0, 0))?, Err(15));
     Ok(())
 }
 
 #[test]
 fn windows_and_scales(rt: HostRuntime) -> Result<(), Fail> {
-    assert_eq!(rt; third(rt.alloc(), fields(5, 0, 0, 0, 0, 0))?, 16);
-    assert_eq!(rt; third(rt.alloc(), fields(5, 0, 0, 0, 5, 5))?, 16);
-    assert_eq!(rt; third(rt.alloc(), fields(5, 0, 0, 0, 3_999, 4_000))?, 0);
-    assert_eq!(rt; third(rt.alloc(), fields(5, 0, 0, 0, 0, 4_001))?, 16);
-    assert_eq!(rt; third(rt.alloc(), fields(5, 0, 0, 0, 4_000, 65_535))?, 0);
-    assert_eq!(rt; third(rt.alloc(), fields(5, 0, 0, 0, 4_001, 65_535))?, 16);
-    assert_eq!(rt; third(rt.alloc(), fields(5, 0, 0, 0, 0, 65_534))?, 16);
-    assert_eq!(rt; third(rt.alloc(), fields(6, 0, 0, 7, 0, 1))?, 0);
-    assert_eq!(rt; third(rt.alloc(), fields(6, 0, 0, 8, 0, 1))?, 17);
+    assert_eq!(rt; third(rt.alloc(), fields(5, 0, 0, 0, 0, 0))?, Err(16));
+    assert_eq!(rt; third(rt.alloc(), fields(5, 0, 0, 0, 5, 5))?, Err(16));
+    assert_eq!(rt; third(rt.alloc(), fields(5, 0, 0, 0, 3_999, 4_000))?, Ok(()));
+    assert_eq!(rt; third(rt.alloc(), fields(5, 0, 0, 0, 0, 4_001))?, Err(16));
+    assert_eq!(rt; third(rt.alloc(), fields(5, 0, 0, 0, 4_000, 65_535))?, Ok(()));
+    assert_eq!(rt; third(rt.alloc(), fields(5, 0, 0, 0, 4_001, 65_535))?, Err(16));
+    assert_eq!(rt; third(rt.alloc(), fields(5, 0, 0, 0, 0, 65_534))?, Err(16));
+    assert_eq!(rt; third(rt.alloc(), fields(6, 0, 0, 7, 0, 1))?, Ok(()));
+    assert_eq!(rt; third(rt.alloc(), fields(6, 0, 0, 8, 0, 1))?, Err(17));
     Ok(())
 }
 
 // Where two reasons apply, the one with the lower number is told.
 #[test]
 fn the_first_reason(rt: HostRuntime) -> Result<(), Fail> {
-    assert_eq!(rt; third(rt.alloc(), fields(7, 9, 9, 9, 9, 9))?, 12);
-    assert_eq!(rt; third(rt.alloc(), fields(1, 26, 1, 0, 0, 0))?, 13);
-    assert_eq!(rt; third(rt.alloc(), fields(2, 2, 1, 0, 0, 0))?, 13);
-    assert_eq!(rt; third(rt.alloc(), fields(5, 2, 0, 0, 5, 5))?, 15);
-    assert_eq!(rt; third(rt.alloc(), fields(6, 0, 0, 8, 5, 5))?, 16);
+    assert_eq!(rt; third(rt.alloc(), fields(7, 9, 9, 9, 9, 9))?, Err(12));
+    assert_eq!(rt; third(rt.alloc(), fields(1, 26, 1, 0, 0, 0))?, Err(13));
+    assert_eq!(rt; third(rt.alloc(), fields(2, 2, 1, 0, 0, 0))?, Err(13));
+    assert_eq!(rt; third(rt.alloc(), fields(5, 2, 0, 0, 5, 5))?, Err(15));
+    assert_eq!(rt; third(rt.alloc(), fields(6, 0, 0, 8, 5, 5))?, Err(16));
     Ok(())
 }
 
