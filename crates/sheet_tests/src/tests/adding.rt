@@ -35,10 +35,19 @@ fn kinds_and_marks(rt: HostRuntime) -> Result<(), Fail> {
 fn windows_and_scales(rt: HostRuntime) -> Result<(), Fail> {
     assert_eq!(rt; third(rt.alloc(), fields(5, 0, 0, 0, 0, 0))?, Err(16));
     assert_eq!(rt; third(rt.alloc(), fields(5, 0, 0, 0, 5, 5))?, Err(16));
-    assert_eq!(rt; third(rt.alloc(), fields(5, 0, 0, 0, 3_999, 4_000))?, Ok(()));
+    assert_eq!(rt;
+        third(rt.alloc(), fields(5, 0, 0, 0, 3_999, 4_000))?,
+        Ok(())
+    );
     assert_eq!(rt; third(rt.alloc(), fields(5, 0, 0, 0, 0, 4_001))?, Err(16));
-    assert_eq!(rt; third(rt.alloc(), fields(5, 0, 0, 0, 4_000, 65_535))?, Ok(()));
-    assert_eq!(rt; third(rt.alloc(), fields(5, 0, 0, 0, 4_001, 65_535))?, Err(16));
+    assert_eq!(rt;
+        third(rt.alloc(), fields(5, 0, 0, 0, 4_000, 65_535))?,
+        Ok(())
+    );
+    assert_eq!(rt;
+        third(rt.alloc(), fields(5, 0, 0, 0, 4_001, 65_535))?,
+        Err(16)
+    );
     assert_eq!(rt; third(rt.alloc(), fields(5, 0, 0, 0, 0, 65_534))?, Err(16));
     assert_eq!(rt; third(rt.alloc(), fields(6, 0, 0, 7, 0, 1))?, Ok(()));
     assert_eq!(rt; third(rt.alloc(), fields(6, 0, 0, 8, 0, 1))?, Err(17));
