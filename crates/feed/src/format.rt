@@ -5,12 +5,12 @@ ghost use Rattle.feed.specs.declared.answers.Ending.{Ending};
 ghost use Rattle.feed.specs.Codes as codes;
 ghost use Rattle.feed.specs.Meaning.{At, FeedEnding};
 
-use crate::{Cause, Ending, Kind, Next};
+use crate::{Cause, Ending, FeedKind, Next};
 use line::Fault;
 
-// A format means, of bytes and a place in them, the lines from there on and an ending, and of a
-// line, how many bytes it takes.
-pub trait Format: Kind {
+// A format says which lines bytes spell from a place on, how they end, and how many bytes a line
+// takes.
+pub trait Format: FeedKind {
     ghost lines: { List ℕ → ℕ → List Line };
 
     ghost long: { Line → ℕ };
@@ -28,12 +28,13 @@ pub trait Format: Kind {
 }
 
 // The ending in a fault, at a place.
-pub fn fault(layer: u8, cause: Cause, place: usize) -> Next
+pub(crate) fn fault(layer: u8, cause: Cause, place: usize) -> Next
     ensures { result ≡ Next.Ended (Ending.Fault (codes.fault layer cause place)) }
 {
     Next::Ended(Ending::Fault(Fault {
         layer,
         number: u8::from(cause),
+        // the library converts no usize to u64
         place: place as u64,
     }))
 }

@@ -18,7 +18,7 @@ pub use text::TextFeed;
 
 // A kind of feed. It stands beside the feed, whose type borrows, since the constant of a type that
 // borrows can carry no clause yet.
-pub trait Kind {
+pub trait FeedKind {
     // The layer that a fault of this kind of feed carries: 3 or above, and never 5.
     const LAYER: u8;
 
@@ -30,7 +30,7 @@ pub trait Kind {
 // A feed means the bytes that it has passed, the lines to come with the length of each in bytes,
 // and an ending.
 pub trait Feed {
-    type Kind: Kind;
+    type Kind: FeedKind;
 
     ghost passed: { Self → ℕ };
 

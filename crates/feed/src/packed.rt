@@ -8,7 +8,7 @@ ghost use Rattle.feed.specs.Spelled.{OneReading, PackedReads, Words};
 
 use crate::bytes::ByteFeed;
 use crate::format::{Format, fault};
-use crate::{Cause, Ending, Kind, Next};
+use crate::{Cause, Ending, FeedKind, Next};
 use line::Line;
 
 // The packed format: a line is its time and its marks, four bytes each, the higher byte first.
@@ -17,6 +17,7 @@ pub struct Packed;
 // The lines that a packed log spells, from the cursor on. It borrows the log.
 pub type PackedFeed<'a> = ByteFeed<'a, Packed>;
 
+// Each format has a constructor of its own, since its contract speaks of its own spelling.
 impl<'a> PackedFeed<'a> {
     // A feed of the lines that the bytes spell. They spell them in one way only, and lines that
     // were spelled out come back.
@@ -42,7 +43,7 @@ fn first_line(bytes: &[u8]) -> Option<Line>
     })
 }
 
-impl Kind for Packed {
+impl FeedKind for Packed {
     const LAYER: u8 = 3;
 
     ghost LAYER = { 3 };

@@ -12,7 +12,7 @@ mod machine;
 
 use crate::bytes::ByteFeed;
 use crate::format::{Format, fault};
-use crate::{Cause, Ending, Kind, Next};
+use crate::{Cause, Ending, FeedKind, Next};
 use machine::{State, Step};
 
 // The text format: a line is its time in decimal, a space, its marks and a line feed.
@@ -21,6 +21,7 @@ pub struct Text;
 // The lines that a text log spells, from the cursor on. It borrows the log.
 pub type TextFeed<'a> = ByteFeed<'a, Text>;
 
+// Each format has a constructor of its own, since its contract speaks of its own spelling.
 impl<'a> TextFeed<'a> {
     // A feed of the lines that the bytes spell. They spell them in one way only, and lawful lines
     // that were spelled out come back.
@@ -34,7 +35,7 @@ impl<'a> TextFeed<'a> {
     }
 }
 
-impl Kind for Text {
+impl FeedKind for Text {
     const LAYER: u8 = 4;
 
     ghost LAYER = { 4 };

@@ -8,7 +8,7 @@ use crate::held::Held;
 use line::Line;
 
 // The longest log that is held, in lines.
-const LONGEST: usize = 1_024;
+pub const LONGEST: usize = 1_024;
 
 fn any_unknown(log: &[Line]) -> bool
     ensures { result ≡ refused.any_unknown log.now }

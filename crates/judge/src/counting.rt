@@ -15,7 +15,7 @@ struct Asked {
 }
 
 // It is a rule of the project that holds, since and count recurse on the formula's number and the
-// place, and that one measure falls.
+// place, with one falling number made of the two.
 impl Held<'_> {
     // Whether the formula `n` holds at the place.
     #[cycle(counting)]

@@ -11,6 +11,7 @@ mod counting;
 mod held;
 
 pub use answers::Refusal;
+pub use checks::LONGEST;
 use held::Held;
 use line::Line;
 use scale::Plain;

@@ -7,19 +7,21 @@ ghost use Rattle.judged.specs.Held as held;
 
 use bench::Bench;
 use feed::{Ending, Feed, Next, TextFeed};
-use judge::{Refusal, judge};
+use judge::{LONGEST, Refusal, judge};
 use line::{Fault, Line};
 use sheet::Sheet;
 use std::io;
 use std::io::Read;
 
-// The longest log that is read, in bytes.
+// The longest log that is read, in bytes. The other program reads its log the same way; a crate for
+// these lines would be no shorter.
 const LIMIT: usize = 32_768;
 
-// The longest log that is judged, in lines.
-const LONGEST: usize = 1_024;
+// The layer that tells of the order of lines.
+const ORDER: u8 = 5;
 
-// Takes lines from the feed until it ends, and tells its ending; or one line more than are judged.
+// Takes lines from the feed until it ends, and tells its ending; or one line more than are judged. The
+// caller's vector has the room, so that nothing here can want memory.
 fn take_lines<F: Feed>(feed: &mut F, log: &mut Vec<Line>) -> Option<Ending>
     requires room { 1025 ≤ vec_capacity log.old }
     requires few { vec_len log.old ≤ 1025 }
@@ -101,12 +103,13 @@ fn main(rt: HostRuntime) -> io::Result<()> {
         return println!(rt; "refused {number}");
     }
     let log = &lines.as_slice()[..count];
+    // The judge is asked by place, from 1.
     for place in 1..=count {
         print_place(&rt, &bench, log, place)?;
     }
     if count < lines.len() {
         let fault = Fault {
-            layer: 5,
+            layer: ORDER,
             number: u8::from(Refusal::Backward),
             place: count as u64,
         };

@@ -25,6 +25,7 @@ fn write_marks<W: fmt::Write>(marks: u32, f: &mut fmt::Formatter<W>) -> fmt::Res
     if marks % (1 << Line::KNOWN) == 0 {
         return f.write_char('-');
     }
+    // i is the number of a mark, and nothing is indexed.
     for i in 0..26u8 {
         if (marks >> i) % 2 == 1 {
             f.write_char(char::from(b'a' + i))?;

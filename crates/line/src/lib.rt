@@ -27,7 +27,8 @@ impl Line {
 }
 
 // What went wrong, and where: the layer that tells it, its service number, and a place.
-// What a place counts is the layer's to say; for a feed it is bytes from 0.
+// What a place counts is the layer's to say; for a feed it is bytes from 0. All three are plain
+// numbers, since any feed may bring layers and numbers of its own.
 #[derive(Clone, Copy, PartialEq, Eq, Debug)]
 pub struct Fault {
     pub layer: u8,

@@ -7,7 +7,8 @@ use feed::{Ending, Feed, Next, TextFeed};
 use std::io;
 use std::io::Read;
 
-// The longest log that is read, in bytes.
+// The longest log that is read, in bytes. The other program reads its log the same way; a crate for
+// these lines would be no shorter.
 const LIMIT: usize = 32_768;
 
 // Prints every line to come, each as the log spells it, and answers how many they were and how the

@@ -13,12 +13,14 @@ enum Kind {
     Wheel(Wheel),
 }
 
-// A limit or a wheel, for those who count without folding.
+// A limit or a wheel, for those who count without folding. It is a rule of the project that a plain
+// scale is a struct over its cases.
 #[derive(Clone, Copy)]
 pub struct Plain {
     kind: Kind,
 }
 
+// One constructor for each case: what the two share is Scale::new already.
 impl Plain {
     pub fn limit(k: u32) -> Result<Plain, Refusal>
         ensures refused { result_err result ≡ limit.refusal k }

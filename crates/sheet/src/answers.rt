@@ -44,7 +44,8 @@ pub enum ReadRefusal {
     Item { place: u16, refusal: Refusal },
 }
 
-// Layer 1 tells of the bytes, layer 2 of an item.
+// Layer 1 tells of the bytes, layer 2 of an item. An item carries its place, so these cases cannot
+// stand for their numbers.
 impl From<ReadRefusal> for Fault {
     ghost from_gives = { λ refusal fault. fault ≡ read_fault refusal };
 

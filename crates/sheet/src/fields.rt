@@ -8,7 +8,8 @@ use crate::formulas::Formula;
 use crate::kinds::Kind;
 use crate::windows::Window;
 
-// A formula as it is offered: which fields count depends on the kind, and the others are 0.
+// A formula as it is offered: which fields count depends on the kind, and the others are 0. The kind is
+// a plain number, as callers and bytes bring it.
 #[derive(Clone, Copy, PartialEq, Eq, Debug)]
 pub struct Fields {
     pub kind: u8,
@@ -72,7 +73,7 @@ fn raw(kind: Kind, a: u8, b: u8, scale: u8) -> Fields
     ensures { result ≡ fields.raw (fields.kind_number kind) a b scale }
 {
     Fields {
-        kind: kind as u8,
+        kind: u8::from(kind),
         a,
         b,
         scale,

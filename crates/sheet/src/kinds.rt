@@ -36,6 +36,14 @@ impl TryFrom<u8> for Kind {
     }
 }
 
+impl From<Kind> for u8 {
+    ghost from_gives = { λ kind n. n ≡ kind_number kind };
+
+    fn from(kind: Kind) -> u8 {
+        kind as u8
+    }
+}
+
 // Which fields a kind of formula uses. `low` and `high` go together, as its window.
 #[derive(Clone, Copy)]
 pub struct Used {
@@ -45,15 +53,15 @@ pub struct Used {
     pub window: bool,
 }
 
-impl From<Kind> for Used {
-    ghost from_gives = { λ kind fields. fields ≡ used (kind_number kind) };
-
-    fn from(kind: Kind) -> Used {
+impl Kind {
+    pub fn used(self) -> Used
+        ensures { result ≡ used (kind_number self) }
+    {
         Used {
-            a: kind != Kind::Never,
-            b: matches!(kind, Kind::Or | Kind::Since | Kind::Count),
-            scale: kind == Kind::Count,
-            window: matches!(kind, Kind::Previous | Kind::Since | Kind::Count),
+            a: self != Kind::Never,
+            b: matches!(self, Kind::Or | Kind::Since | Kind::Count),
+            scale: self == Kind::Count,
+            window: matches!(self, Kind::Previous | Kind::Since | Kind::Count),
         }
     }
 }

@@ -9,7 +9,7 @@ ghost use Rattle.sheet.specs.Windows.{window_of};
 use crate::answers::Refusal;
 use crate::fields::Fields;
 use crate::formulas::Formula;
-use crate::kinds::{Kind, Used};
+use crate::kinds::Kind;
 use crate::windows::Window;
 
 // The formula that fields are where `n` formulas are there, or what is wrong with them by
@@ -56,7 +56,7 @@ fn is_spare(kind: Kind, f: Fields) -> bool
     requires { f.kind ≡ kind_number kind }
     ensures { result ≡ refused.spare f }
 {
-    let used = Used::from(kind);
+    let used = kind.used();
     !used.a && f.a != 0
         || !used.b && f.b != 0
         || !used.scale && f.scale != 0

@@ -10,7 +10,8 @@ mod bytes;
 use crate::formulas::Formula;
 
 // Formulas, numbered from 0, and rules, each of which is the number of a formula. Every sheet obeys
-// its conditions, and has room for all that it may hold.
+// its conditions, and has room for all that it may hold. It has no model, which would hide its
+// conditions from the crates above.
 #[derive(Drop)]
 pub struct Sheet {
     formulas: Vec<Formula>,

@@ -15,7 +15,8 @@ pub enum State {
     Hyphen { time: u32 },
 }
 
-// Where a byte leads. Three ways and no Option: only the first goes on with the same line.
+// Where a byte leads. Three ways and no Option; and no Result, since what is wrong is told by the
+// state, whatever the byte.
 #[derive(Clone, Copy)]
 pub enum Step {
     On(State),
@@ -23,7 +24,8 @@ pub enum Step {
     Wrong,
 }
 
-// The value of a decimal digit.
+// The value of a decimal digit. The pattern and the value behind it read as those of a letter do,
+// which to_digit would not.
 fn digit(b: u8) -> Option<u32>
     ensures { result ≡ (if is_digit b then Some (b - 48) else None) }
 {

@@ -1,6 +1,6 @@
 // Packed logs.
 use super::{fault, feeds};
-use feed::{Ending, Feed, Kind, Next, PackedFeed, TextFeed};
+use feed::{Ending, Feed, FeedKind, Next, PackedFeed, TextFeed};
 use line::Line;
 
 // Two lines and five bytes more. The second line's marks are all set, unknown ones too.
@@ -48,6 +48,6 @@ fn endings(rt: HostRuntime) {
 
 #[test]
 fn layers(rt: HostRuntime) {
-    assert_eq!(rt; <<PackedFeed<'_> as Feed>::Kind as Kind>::LAYER, 3);
-    assert_eq!(rt; <<TextFeed<'_> as Feed>::Kind as Kind>::LAYER, 4);
+    assert_eq!(rt; <<PackedFeed<'_> as Feed>::Kind as FeedKind>::LAYER, 3);
+    assert_eq!(rt; <<TextFeed<'_> as Feed>::Kind as FeedKind>::LAYER, 4);
 }

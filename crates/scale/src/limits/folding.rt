@@ -52,9 +52,9 @@ impl Scale for Limit {
         self.number() + 2
     }
 
-    // Counts above the limit k share the class k + 1. A checked conversion of the class would have a
-    // case that never comes.
+    // Counts above the limit k share the class k + 1.
     fn fold(self, count: u64) -> u16 {
+        // A class is at most 1,001: a checked conversion would have a case that never comes.
         count.min(u64::from(self.number()) + 1) as u16
     }
 

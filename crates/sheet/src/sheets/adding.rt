@@ -10,7 +10,7 @@ use crate::answers::Refusal;
 use crate::fields::Fields;
 use crate::formulas::Formula;
 use crate::limits::SERVER;
-use crate::refused::formula;
+use crate::refused;
 use std::alloc::{AllocError, Global};
 
 impl Sheet {
@@ -37,7 +37,7 @@ impl Sheet {
         if n >= SERVER.formulas {
             return Err(Refusal::Full);
         }
-        let formula = formula(n, f)?;
+        let formula = refused::formula(n, f)?;
         if self.cells + formula.cells() > SERVER.cells {
             return Err(Refusal::Cells);
         }

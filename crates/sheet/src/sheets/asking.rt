@@ -71,7 +71,8 @@ fn greater(x: Option<u32>, y: Option<u32>) -> Option<u32>
     Some(x?.max(y?))
 }
 
-// A window lets a reach begin where its longest gap ends; an open one has no such gap.
+// A window lets a reach begin where its longest gap ends; an open one has no such gap. A reach on a
+// sheet is far below 2,000,000, so the sum fits.
 fn beyond(window: Window, reach: Option<u32>) -> Option<u32>
     requires { IfSome reach (λ r. r ≤ 2000000) }
     ensures { result ≡ beyond_of window reach }

@@ -1,4 +1,5 @@
-// A sheet in bytes: formulas of eight bytes, rules of one, and a trailer of four.
+// A sheet in bytes: formulas of eight bytes, rules of one, and a trailer of four. The numbers of its
+// items fit in what they are cast to: a checked conversion would have a case that never comes.
 ghost use Rattle.std.specs.Prelude.{◌≡◌, ◌+◌, ◌*◌, ◌<◌, ◌≤◌, ◌++◌, length, map, take, drop, Ok};
 ghost use Rattle.std.specs.List.{flat_map};
 ghost use Rattle.sheet.specs.Bytes as layout;
@@ -65,7 +66,7 @@ impl Sheet {
     }
 
     // Adds the rules, the first of which is the item at a place, until one is refused. One loop for both
-    // would need a trait with an impl for formulas and one for rules, longer than the two loops.
+    // would take the adding as a closure, whose clause over the sheet before and after is longer than a loop.
     fn add_rules(&mut self, rules: &[u8], first: usize) -> Result<(), ReadRefusal>
         requires first { first < 256 }
         requires few { length rules.now < 256 }
@@ -120,7 +121,7 @@ impl Sheet {
     }
 
     // Writes the sheet's bytes to the front of a buffer and answers how many they are. Read again,
-    // they are this sheet.
+    // they are this sheet. The buffer is the caller's, since nothing allocates after a sheet is made.
     pub fn write(&self, out: &mut [u8]) -> Result<usize, WriteRefusal>
         ensures value { layout.Written (layout.bytes_of (contents.of self.now)) out.old result out.new }
         ensures reads { layout.reading server (layout.bytes_of (contents.of self.now)) ≡ Ok (contents.of self.now) }

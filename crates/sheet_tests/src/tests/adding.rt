@@ -65,7 +65,7 @@ fn the_first_reason(rt: HostRuntime) -> Result<(), Fail> {
     Ok(())
 }
 
-// The `n`th window of a sheet that costs 8,192 cells with 192 in the third.
+// What a sheet whose two windows cost 8,000 cells says to a third that costs `high`.
 fn third_window(heap: std::alloc::Global, high: u16) -> Result<Result<(), Refusal>, Fail> {
     let mut sheet = Sheet::new(heap)?;
     sheet.add(fields(0, 0, 0, 0, 0, 0))?;
