@@ -43,6 +43,7 @@ fn risen(log: &[Line]) -> usize
     ensures value { result ≡ held.risen log.now }
     ensures bound { result ≤ length log.now }
 {
+    // `position` over the log's windows was tried: no lemma says which pairs such a walk yields.
     let mut last = 0;
     for (i, line) in log.iter().enumerate() {
         if line.time < last {
