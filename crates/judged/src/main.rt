@@ -54,7 +54,8 @@ fn risen(log: &[Line]) -> usize
     log.len()
 }
 
-// Whether nothing before the log can change what the rule says at the place.
+// Whether nothing before the log can change what the rule says at the place. Places are numbered from 1,
+// here and below, so the line at a place has the index before it.
 fn settled(sheet: &Sheet, log: &[Line], rule: usize, place: usize) -> bool
     requires from { 1 ≤ place }
     requires to { place ≤ length log.now }
@@ -90,6 +91,7 @@ fn print_place(rt: &impl Print, bench: &Bench, log: &[Line], place: usize) -> io
 
 fn main(rt: HostRuntime) -> io::Result<()> {
     let mut text = Vec::new(rt.alloc());
+    // (the library converts no usize to u64, here and below)
     rt.stdin().take(LIMIT as u64 + 1).read_to_end(&mut text)?;
     if text.len() > LIMIT {
         return println!(rt; "long");

@@ -32,6 +32,7 @@ fn print_lines<F: Feed>(rt: &impl Print, feed: &mut F) -> io::Result<(u64, Endin
 
 fn main(rt: HostRuntime) -> io::Result<()> {
     let mut log = Vec::new(rt.alloc());
+    // (the library converts no usize to u64)
     rt.stdin().take(LIMIT as u64 + 1).read_to_end(&mut log)?;
     if log.len() > LIMIT {
         return println!(rt; "long");
