@@ -73,6 +73,21 @@ fn trailers(rt: HostRuntime) -> Result<(), Fail> {
 }
 
 #[test]
+fn a_refused_reading_empties_a_full_sheet(rt: HostRuntime) -> Result<(), Fail> {
+    let mut sheet = Sheet::new(rt.alloc())?;
+    for _ in 0..64 {
+        sheet.add(fields(0, 0, 0, 0, 0, 0))?;
+    }
+    for _ in 0..8 {
+        sheet.add_rule(63)?;
+    }
+    assert_eq!(rt; sheet.read(&[0, 0, 0]), Err(ReadRefusal::Length));
+    assert_eq!(rt; sheet.formulas().len(), 0);
+    assert_eq!(rt; sheet.rules().len(), 0);
+    Ok(())
+}
+
+#[test]
 fn items(rt: HostRuntime) -> Result<(), Fail> {
     assert_eq!(rt;
         told(&rt, rt.alloc(), &[2, 0, 0, 0, 0, 0, 0, 0, 1, 0, 0, 8])?,
