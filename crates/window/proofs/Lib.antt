@@ -1,0 +1,2 @@
+pub mod CountAppended
+pub mod SinceAppended
