@@ -17,8 +17,8 @@ pub struct Bench {
     pub scales: [Plain; 8],
 }
 
-// The bench sheet in bytes. Formulas 0 mark b, 1 mark p, 2 count b since p within 10 seconds, 3 mark
-// a, 4 mark s, 5 not s, 6 no s since an a that is 5 to 19 seconds old; rules 2 and 6.
+// The bench sheet in bytes. Formulas 0 mark b, 1 mark p, 2 count b since p within 10 seconds, 3
+// mark a, 4 mark s, 5 not s, 6 no s since an a that is 5 to 19 seconds old; rules 2 and 6.
 const SHEET: [u8; 62] = [
     1, 1, 0, 0, 0, 0, 0, 0, 1, 15, 0, 0, 0, 0, 0, 0, 6, 1, 0, 0, 0, 0, 0, 10, 1, 0, 0, 0, 0, 0, 0,
     0, 1, 18, 0, 0, 0, 0, 0, 0, 2, 4, 0, 0, 0, 0, 0, 0, 5, 5, 3, 0, 0, 5, 0, 20, 2, 6, 7, 2, 0, 56,

@@ -32,6 +32,7 @@ pub enum Cause {
     Cut = 54,
 }
 
+// Written out: no impl may come from a macro of our own.
 impl From<Cause> for u8 {
     ghost from_gives = { λ cause code. code ≡ number cause };
 

@@ -5,8 +5,8 @@ use crate::format::Format;
 use crate::{Feed, Next};
 use std::marker::PhantomData;
 
-// The lines that a log in the format F spells, from the cursor on. It borrows the log, and keeps all of
-// it beside the cursor, since a place counts from the log's start.
+// The lines that a log in the format F spells, from the cursor on. It borrows the log, and keeps
+// all of it beside the cursor, since a place counts from the log's start.
 #[derive(Drop)]
 pub struct ByteFeed<'a, F> {
     bytes: &'a [u8],
@@ -53,6 +53,6 @@ impl<'a, F: Format> Feed for ByteFeed<'a, F> {
     }
 
     fn place(&self) -> u64 {
-        self.at as u64 // the library converts no usize to u64
+        self.at as u64 // no From; TryFrom would have a case that never comes
     }
 }

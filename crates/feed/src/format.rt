@@ -34,7 +34,7 @@ pub(crate) fn fault(layer: u8, cause: Cause, place: usize) -> Next
     Next::Ended(Ending::Fault(Fault {
         layer,
         number: u8::from(cause),
-        // the library converts no usize to u64
+        // no From for usize to u64; TryFrom would have a case that never comes
         place: place as u64,
     }))
 }

@@ -40,7 +40,8 @@ pub trait Feed {
 
     ghost ending: { Self → Ending };
 
-    // The first line to come, which is passed; where there is none, the ending, and nothing changes.
+    // The first line to come, which is passed; where there is none, the ending, and nothing
+    // changes.
     fn next(&mut self) -> Next
         ensures value { result ≡ answer (lines self.old) (ending self.old) }
         ensures rest { lines self.new ≡ drop 1 (lines self.old) }

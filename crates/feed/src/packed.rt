@@ -17,7 +17,8 @@ pub struct Packed;
 // The lines that a packed log spells, from the cursor on. It borrows the log.
 pub type PackedFeed<'a> = ByteFeed<'a, Packed>;
 
-// Each format has a constructor of its own, since its contract speaks of its own spelling.
+// Each format has a constructor of its own: one for both would need a law of Format that says what
+// the bytes spell, and a trait's law can't cite the lemmas in proofs/ that show it.
 impl<'a> PackedFeed<'a> {
     // A feed of the lines that the bytes spell. They spell them in one way only, and lines that
     // were spelled out come back.

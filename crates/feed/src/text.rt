@@ -21,7 +21,8 @@ pub struct Text;
 // The lines that a text log spells, from the cursor on. It borrows the log.
 pub type TextFeed<'a> = ByteFeed<'a, Text>;
 
-// Each format has a constructor of its own, since its contract speaks of its own spelling.
+// Each format has a constructor of its own: one for both would need a law of Format that says what
+// the bytes spell, and a trait's law can't cite the lemmas in proofs/ that show it.
 impl<'a> TextFeed<'a> {
     // A feed of the lines that the bytes spell. They spell them in one way only, and lawful lines
     // that were spelled out come back.

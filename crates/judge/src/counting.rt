@@ -76,8 +76,8 @@ impl Held<'_> {
         self.holds(usize::from(asked.a), h) && self.since(asked, h - 1)
     }
 
-    // How many places up to `h` lie in the window and have b, of those after the last up to `h` that
-    // lies in the window and has a.
+    // How many places up to `h` lie in the window and have b, of those after the last up to `h`
+    // that lies in the window and has a.
     #[cycle(counting)]
     #[tactic(auto, using(crate::proofs::Downs::count_steps))]
     fn count(&self, asked: Asked, h: usize) -> u64

@@ -11,8 +11,8 @@ fn line(time: u32, marks: u32) -> Line {
     Line { time, marks }
 }
 
-// What is told of the formula, on a sheet with `mark 0` alone: whether it holds, or the number of the
-// refusal.
+// What is told of the formula, on a sheet with `mark 0` alone: whether it holds, or the number of
+// the refusal.
 fn told(
     heap: std::alloc::Global,
     log: &[Line],

@@ -20,8 +20,8 @@ const LIMIT: usize = 32_768;
 // The layer that tells of the order of lines.
 const ORDER: u8 = 5;
 
-// Takes lines from the feed until it ends, and tells its ending; or one line more than are judged. The
-// caller's vector has the room, so that nothing here can want memory.
+// Takes lines from the feed until it ends, and tells its ending; or one line more than are judged.
+// The caller's vector has the room, so that nothing here can want memory.
 fn take_lines<F: Feed>(feed: &mut F, log: &mut Vec<Line>) -> Option<Ending>
     requires room { 1025 ≤ vec_capacity log.old }
     requires few { vec_len log.old ≤ 1025 }
@@ -43,7 +43,8 @@ fn risen(log: &[Line]) -> usize
     ensures value { result ≡ held.risen log.now }
     ensures bound { result ≤ length log.now }
 {
-    // `position` over the log's windows was tried: no lemma says which pairs such a walk yields.
+    // Tried: array_windows with position. The proof that the first pair to fall is the definition's
+    // did not close.
     let mut last = 0;
     for (i, line) in log.iter().enumerate() {
         if line.time < last {
@@ -54,8 +55,8 @@ fn risen(log: &[Line]) -> usize
     log.len()
 }
 
-// Whether nothing before the log can change what the rule says at the place. Places are numbered from 1,
-// here and below, so the line at a place has the index before it.
+// Whether nothing before the log can change what the rule says at the place. Places are numbered
+// from 1, here and below, so the line at a place has the index before it.
 fn settled(sheet: &Sheet, log: &[Line], rule: usize, place: usize) -> bool
     requires from { 1 ≤ place }
     requires to { place ≤ length log.now }
@@ -91,7 +92,7 @@ fn print_place(rt: &impl Print, bench: &Bench, log: &[Line], place: usize) -> io
 
 fn main(rt: HostRuntime) -> io::Result<()> {
     let mut text = Vec::new(rt.alloc());
-    // (the library converts no usize to u64, here and below)
+    // (usize to u64 has no From, and TryFrom a case that never comes, here and below)
     rt.stdin().take(LIMIT as u64 + 1).read_to_end(&mut text)?;
     if text.len() > LIMIT {
         return println!(rt; "long");

@@ -18,6 +18,7 @@ fn print_lines<F: Feed>(rt: &impl Print, feed: &mut F) -> io::Result<(u64, Endin
     ensures ending { IfOk result (λ p. p.1 ≡ F.ending feed.old) }
     ensures empty { OnOk result (F.lines feed.new ≡ []) }
 {
+    // A feed is no iterator, so the lines are counted here.
     let mut count = 0u64;
     loop {
         match feed.next() {
@@ -32,7 +33,7 @@ fn print_lines<F: Feed>(rt: &impl Print, feed: &mut F) -> io::Result<(u64, Endin
 
 fn main(rt: HostRuntime) -> io::Result<()> {
     let mut log = Vec::new(rt.alloc());
-    // (the library converts no usize to u64)
+    // (usize to u64 has no From, and TryFrom a case that never comes)
     rt.stdin().take(LIMIT as u64 + 1).read_to_end(&mut log)?;
     if log.len() > LIMIT {
         return println!(rt; "long");

@@ -15,6 +15,7 @@ pub enum Refusal {
     Pattern = 33,
 }
 
+// Written out: no impl may come from a macro of our own.
 impl From<Refusal> for u8 {
     ghost from_gives = { λ refusal code. code ≡ number refusal };
 

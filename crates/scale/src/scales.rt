@@ -42,8 +42,8 @@ pub trait Scale: Copy {
         ensures refused { result_err result ≡ refusal numbers }
         ensures made { IfOk result (given numbers) };
 
-    // The scale that a new set has at each number. Not Default, which promises a fact about the value:
-    // the definitions start from the value itself.
+    // The scale that a new set has at each number. Not Default, which promises a fact about the
+    // value: the definitions start from the value itself.
     fn fresh() -> Self
         ensures { result ≡ fresh };
 

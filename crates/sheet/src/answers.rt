@@ -25,6 +25,7 @@ pub enum Refusal {
     Cells = 18,
 }
 
+// Written out: no impl may come from a macro of our own.
 impl From<Refusal> for u8 {
     ghost from_gives = { λ refusal code. code ≡ number refusal };
 
@@ -77,6 +78,7 @@ pub enum WriteRefusal {
     Short = 23,
 }
 
+// Written out: no impl may come from a macro of our own.
 impl From<WriteRefusal> for u8 {
     ghost from_gives = { λ refusal code. code ≡ short_number refusal };
 

@@ -8,8 +8,8 @@ use crate::formulas::Formula;
 use crate::kinds::Kind;
 use crate::windows::Window;
 
-// A formula as it is offered: which fields count depends on the kind, and the others are 0. The kind is
-// a plain number, as callers and bytes bring it.
+// A formula as it is offered: which fields count depends on the kind, and the others are 0. The
+// kind is a plain number, as callers and bytes bring it.
 #[derive(Clone, Copy, PartialEq, Eq, Debug)]
 pub struct Fields {
     pub kind: u8,

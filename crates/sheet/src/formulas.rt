@@ -4,8 +4,8 @@ ghost use Rattle.sheet.specs.Formulas.{cells_of};
 
 use crate::windows::Window;
 
-// A formula on a sheet. `a` and `b` are the numbers of formulas before it, as the bytes of a sheet have
-// them too; two formulas may name the same one.
+// A formula on a sheet. `a` and `b` are the numbers of formulas before it, as the bytes of a sheet
+// have them too; two formulas may name the same one.
 #[derive(Clone, Copy, PartialEq, Eq, Debug)]
 pub enum Formula {
     Never,

@@ -36,6 +36,7 @@ impl TryFrom<u8> for Kind {
     }
 }
 
+// Written out: no impl may come from a macro of our own.
 impl From<Kind> for u8 {
     ghost from_gives = { λ kind n. n ≡ kind_number kind };
 

@@ -15,8 +15,8 @@ use crate::formulas::Formula;
 #[derive(Drop)]
 pub struct Sheet {
     formulas: Vec<Formula>,
-    // The reach of each formula. It stands beside them and not with them, since the formulas are lent as
-    // one slice.
+    // The reach of each formula. It stands beside them and not with them, since the formulas are
+    // lent as one slice.
     reaches: Vec<Option<u32>>,
     rules: Vec<u8>,
     // What the formulas cost.

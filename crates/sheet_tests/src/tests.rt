@@ -32,8 +32,8 @@ fn bench(heap: std::alloc::Global) -> Result<Sheet, Fail> {
     Ok(sheet)
 }
 
-// What a sheet of two formulas, `never` and `mark 25`, says to a third: it is taken, or the number of
-// the refusal.
+// What a sheet of two formulas, `never` and `mark 25`, says to a third: it is taken, or the number
+// of the refusal.
 fn third(heap: std::alloc::Global, f: Fields) -> Result<Result<(), u8>, Fail> {
     let mut sheet = Sheet::new(heap)?;
     sheet.add(fields(0, 0, 0, 0, 0, 0))?;

@@ -1,5 +1,4 @@
-// A sheet in bytes: formulas of eight bytes, rules of one, and a trailer of four. The numbers of its
-// items fit in what they are cast to: a checked conversion would have a case that never comes.
+// A sheet in bytes: formulas of eight bytes, rules of one, and a trailer of four.
 ghost use Rattle.std.specs.Prelude.{◌≡◌, ◌+◌, ◌*◌, ◌<◌, ◌≤◌, ◌++◌, length, map, take, drop, Ok};
 ghost use Rattle.std.specs.List.{flat_map};
 ghost use Rattle.sheet.specs.Bytes as layout;
@@ -34,7 +33,7 @@ fn trailer(formulas: u8, rules: u8) -> [u8; 4]
     [formulas, rules, high, low]
 }
 
-// Writes a piece at a place.
+// Writes a piece at a place; write_formulas tells why by place.
 fn put(out: &mut [u8], at: usize, piece: &[u8])
     requires { at + length piece.now ≤ length out.old }
     ensures { out.new ≡ take at out.old ++ (piece.now ++ drop (at + length piece.now) out.old) }
@@ -58,22 +57,23 @@ impl Sheet {
         ensures { layout.Brought (layout.add_formulas server 0 (contents.of self.old) (map layout.fields_in formulas.now)) result (contents.of self.new) }
     {
         for (i, bytes) in formulas.iter().enumerate() {
-            let place = i as u16;
+            let place = i as u16; // it fits: a checked conversion would have a case that never comes
             self.add(Fields::from(*bytes))
                 .map_err(|refusal| ReadRefusal::Item { place, refusal })?;
         }
         Ok(())
     }
 
-    // Adds the rules, the first of which is the item at a place, until one is refused. One loop for both
-    // would take the adding as a closure, whose clause over the sheet before and after is longer than a loop.
+    // Adds the rules, the first of which is the item at a place, until one is refused. One loop for
+    // both would take the adding as a closure, whose clause over the sheet before and after is
+    // longer than a loop.
     fn add_rules(&mut self, rules: &[u8], first: usize) -> Result<(), ReadRefusal>
         requires first { first < 256 }
         requires few { length rules.now < 256 }
         ensures { layout.Brought (layout.add_rules server first (contents.of self.old) rules.now) result (contents.of self.new) }
     {
         for (i, n) in rules.iter().enumerate() {
-            let place = (first + i) as u16;
+            let place = (first + i) as u16; // it fits, as above
             self.add_rule(*n)
                 .map_err(|refusal| ReadRefusal::Item { place, refusal })?;
         }
@@ -92,8 +92,9 @@ impl Sheet {
         self.add_rules(&bytes[start..start + rules], formulas)
     }
 
-    // Reads a sheet from its bytes. What was on the sheet is gone, also where the bytes are refused.
-    // Bytes that are read are those of the sheet that is read, and the bytes of every sheet are read.
+    // Reads a sheet from its bytes. What was on the sheet is gone, also where the bytes are
+    // refused. Bytes that are read are those of the sheet that is read, and the bytes of every
+    // sheet are read.
     #[tactic(auto, using(crate::proofs::Whole::refused_value, crate::proofs::Whole::refused_finds, crate::proofs::Whole::done_value, crate::proofs::Whole::done_back, crate::proofs::Whole::done_finds))]
     pub fn read(&mut self, bytes: &[u8]) -> Result<(), ReadRefusal>
         ensures value { layout.Received (layout.reading server bytes.now) result (contents.of self.new) }
@@ -108,8 +109,8 @@ impl Sheet {
         answer
     }
 
-    // Writes the formulas to the front of a buffer that has room for them. Each is put at its place, since
-    // of a buffer that was lent in chunks no proof knows what it holds afterwards.
+    // Writes the formulas to the front of a buffer that has room for them. Each is put at its
+    // place. Tried: as_chunks_mut, whose contract says nothing of what the buffer ends as.
     fn write_formulas(&self, out: &mut [u8])
         requires { 8 * length (contents.of self.now).formulas ≤ length out.old }
         ensures { out.new ≡ flat_map layout.formula_bytes (contents.of self.now).formulas ++ drop (8 * length (contents.of self.now).formulas) out.old }
@@ -121,7 +122,8 @@ impl Sheet {
     }
 
     // Writes the sheet's bytes to the front of a buffer and answers how many they are. Read again,
-    // they are this sheet. The buffer is the caller's, since nothing allocates after a sheet is made.
+    // they are this sheet. The buffer is the caller's, since nothing allocates after a sheet is
+    // made.
     pub fn write(&self, out: &mut [u8]) -> Result<usize, WriteRefusal>
         ensures value { layout.Written (layout.bytes_of (contents.of self.now)) out.old result out.new }
         ensures reads { layout.reading server (layout.bytes_of (contents.of self.now)) ≡ Ok (contents.of self.now) }
@@ -135,6 +137,7 @@ impl Sheet {
         }
         self.write_formulas(out);
         put(out, start, self.rules.as_slice());
+        // the two numbers fit, as above
         put(out, start + rules, &trailer(formulas as u8, rules as u8));
         Ok(length)
     }

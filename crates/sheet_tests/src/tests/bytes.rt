@@ -5,7 +5,8 @@ use sheet::{ReadRefusal, Refusal, Sheet, WriteRefusal};
 use std::process::Abort;
 use std::test::Fail;
 
-// The bench sheet: seven formulas, two rules, a trailer.
+// The bench sheet: seven formulas, two rules, a trailer. The tests don't stand on the crate bench,
+// which stands on what they test.
 const BENCH: [u8; 62] = [
     1, 1, 0, 0, 0, 0, 0, 0, 1, 15, 0, 0, 0, 0, 0, 0, 6, 1, 0, 0, 0, 0, 0, 10, 1, 0, 0, 0, 0, 0, 0,
     0, 1, 18, 0, 0, 0, 0, 0, 0, 2, 4, 0, 0, 0, 0, 0, 0, 5, 5, 3, 0, 0, 5, 0, 20, 2, 6, 7, 2, 0, 56,
