@@ -1,2 +1,4 @@
 pub mod CountAppended
+pub mod Folding
+pub mod Parts
 pub mod SinceAppended

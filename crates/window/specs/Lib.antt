@@ -1,3 +1,5 @@
 pub mod Counts
+pub mod Queues
 pub mod Sinces
 pub mod Summaries
+pub mod Waiting

@@ -1,15 +1,19 @@
 // Windows: summaries of the lines whose age lies in a window, as the log goes by and is not kept.
-// So far there are the summaries.
+// So far there are the summaries, and the queue in which they wait.
 #![tactic(auto)]
 
 ghost use Rattle.std.specs.Prelude.{◌≡◌, List, [], ◌∷◌};
 ghost use Rattle.window.specs.declared.Truths.{Truths};
 ghost use Rattle.window.specs.Summaries.{Joins};
 
+mod cells;
 mod counts;
+mod queue;
 mod sinces;
 
+pub use cells::Cell;
 pub use counts::{ResettingCount, Tally};
+pub use queue::Queue;
 pub use sinces::{Since, SincePair};
 
 // Whether two formulas a and b hold at a line. It is all that a summary asks of a line.

@@ -1,5 +1,6 @@
 // What the tests of all summary kinds share: lists of lines, and three ways to put values together.
 mod counts;
+mod queues;
 mod sinces;
 
 use window::{Summary, Truths};
