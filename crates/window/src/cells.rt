@@ -25,10 +25,8 @@ pub fn fold_from_the_end<V: Copy, K: Summary<Value = V>>(kind: &K, slots: &mut [
     ensures folds { (seconds : List Second) → cells_in slots.old ≡ cells_of (K.value kind.now) seconds → folds_in slots.new ≡ folds_of (K.value kind.now) seconds }
 {
     let mut fold = kind.empty();
-    // The index is kept by hand: what is done is what lies from it on, and the proof speaks of that.
-    let mut i = slots.len();
-    while i > 0 {
-        i -= 1;
+    // By an index: no clause of iter_mut().rev() says what the slice ends as.
+    for i in (0..slots.len()).rev() {
         fold = kind.join(slots[i].cell.value, fold);
         slots[i].fold = fold;
     }
