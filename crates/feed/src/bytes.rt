@@ -44,7 +44,7 @@ impl<'a, F: Format> Feed for ByteFeed<'a, F> {
 
     ghost ending = { over.ending F.ending };
 
-    ghost laws = { over.laws F.lines F.long F.ending F.lawful F.faults };
+    ghost laws = { λ level layer. over.laws F.lines F.long F.ending layer F.faults };
 
     fn next(&mut self) -> Next {
         let (answer, at) = F::read_at(self.bytes, self.at);

@@ -40,6 +40,10 @@ pub trait Feed {
 
     ghost ending: { Self → Ending };
 
+    // What each feed owes: a length for each line, and lawful faults, whatever lawful layer it is
+    // laid beside. With the layer of its kind it is `laws _ Self.Kind.lawful`.
+    ghost laws: { (level : ℕ) → FeedLayer level → Laws level lines lengths ending };
+
     // The first line to come, which is passed; where there is none, the ending, and nothing
     // changes.
     fn next(&mut self) -> Next
@@ -52,7 +56,4 @@ pub trait Feed {
     // How many bytes have been passed.
     fn place(&self) -> u64
         ensures { result ≡ passed self.now };
-
-    // What each feed owes: a length for each line, a lawful layer, and lawful faults.
-    ghost laws: { Laws Self.Kind.LAYER lines lengths ending };
 }

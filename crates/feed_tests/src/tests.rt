@@ -16,6 +16,7 @@ fn feeds<F: Feed>(rt: &impl Abort, feed: &mut F, lines: u32, place: u64, ending:
     assert_eq!(rt; feed.place(), place);
 }
 
+// The tests of sheets have one too: no crate of tests stands on another.
 fn fault(layer: u8, number: u8, place: u64) -> Ending {
     Ending::Fault(Fault {
         layer,

@@ -43,8 +43,8 @@ fn risen(log: &[Line]) -> usize
     ensures value { result ≡ held.risen log.now }
     ensures bound { result ≤ length log.now }
 {
-    // Tried: array_windows with position. The proof that the first pair to fall is the definition's
-    // did not close.
+    // Tried: array_windows with position. The check leaves open that the first pair to fall is the
+    // definition's, and no answer was written for it.
     let mut last = 0;
     for (i, line) in log.iter().enumerate() {
         if line.time < last {

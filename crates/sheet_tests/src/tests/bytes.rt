@@ -51,6 +51,7 @@ fn told(rt: &impl Abort, heap: std::alloc::Global, bytes: &[u8]) -> Result<Fault
     Ok(Fault::from(refusal))
 }
 
+// The tests of feeds have one too: no crate of tests stands on another.
 fn fault(layer: u8, number: u8, place: u64) -> Fault {
     Fault {
         layer,
