@@ -1,5 +1,5 @@
 // Truth by plain counting: over formulas of smaller number, and places further back.
-ghost use Rattle.std.specs.Prelude.{◌≡◌, ◌≤◌};
+ghost use Rattle.std.specs.Prelude.{◌≡◌, ◌≤◌, length};
 ghost use Rattle.judge.specs.Counting.{truth, since_up_to, count_up_to};
 
 use crate::held::Held;
@@ -15,12 +15,14 @@ struct Asked {
 }
 
 // It is a rule of the project that holds, since and count recurse on the formula's number and the
-// place, with one falling number made of the two.
+// place, with one falling number made of the two. How deep they go hangs on the place, so each asks
+// for one of the log, which is short.
 impl Held<'_> {
     // Whether the formula `n` holds at the place.
     #[cycle(counting)]
     #[tactic(auto, using(crate::proofs::Unrolls::unrolls))]
     pub(crate) fn holds(&self, n: usize, place: usize) -> bool
+        requires within { place ≤ length self.now.log.now }
         ensures { result ≡ truth self.now n place }
     {
         match self.formula(n) {
@@ -65,6 +67,8 @@ impl Held<'_> {
     #[cycle(counting)]
     #[tactic(auto, using(crate::proofs::Downs::since_steps))]
     fn since(&self, asked: Asked, h: usize) -> bool
+        requires within { asked.place ≤ length self.now.log.now }
+        requires back { h ≤ asked.place }
         ensures { result ≡ since_up_to self.now asked h }
     {
         if h == 0 {
@@ -81,6 +85,8 @@ impl Held<'_> {
     #[cycle(counting)]
     #[tactic(auto, using(crate::proofs::Downs::count_steps))]
     fn count(&self, asked: Asked, h: usize) -> u64
+        requires within { asked.place ≤ length self.now.log.now }
+        requires back { h ≤ asked.place }
         ensures value { result ≡ count_up_to self.now asked h }
         ensures bound { result ≤ h }
     {

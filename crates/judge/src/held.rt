@@ -1,4 +1,5 @@
 // A held log, and what is read of it.
+ghost use Rattle.std.specs.Prelude.{◌≤◌, length};
 ghost use Rattle.sheet.specs.Conditions.{EachLawful};
 
 use line::Line;
@@ -8,13 +9,15 @@ use sheet::{Formula, Window};
 // What stands at a place that the log does not have.
 const BLANK: Line = Line { time: 0, marks: 0 };
 
-// A log that is held, with the formulas that are asked of it and what the scales mean.
+// A log that is held, with the formulas that are asked of it and what the scales mean. It is short,
+// since the judge goes as deep as the log is long.
 #[derive(Clone, Copy)]
 pub(crate) struct Held<'a> {
     pub(crate) formulas: &'a [Formula],
     pub(crate) scales: &'a [Plain],
     pub(crate) log: &'a [Line],
     ghost lawful: { EachLawful formulas.now },
+    ghost short: { length log.now ≤ 1024 },
 }
 
 impl Held<'_> {

@@ -12,6 +12,7 @@ mod held;
 
 pub use answers::Refusal;
 pub use checks::LONGEST;
+use checks::check;
 use held::Held;
 use line::Line;
 use scale::Plain;
@@ -28,11 +29,11 @@ pub fn judge(
 ) -> Result<bool, Refusal>
     ensures { result ≡ judged (contents.of sheet.now).formulas scales.now log.now formula place }
 {
+    check(sheet.formulas(), log, formula, place)?;
     let held = Held {
         formulas: sheet.formulas(),
         scales,
         log,
     };
-    held.check(formula, place)?;
     Ok(held.holds(formula, place))
 }
