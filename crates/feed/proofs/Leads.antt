@@ -54,11 +54,11 @@ abbrev pub Leads : State → List ℕ → State → Type 0
 Leads s [] u = s ≡ u
 Leads s (b ∷ bs) u = (t : State) × (step s b ≡ On t) × Leads t bs u
 
-leads_push : (s : State) (xs : List ℕ) (t : State) (b : ℕ) (u : State) → Leads s xs t → step t b ≡ On u → Leads s (xs ++ b ∷ []) u
+pub leads_push : (s : State) (xs : List ℕ) (t : State) (b : ℕ) (u : State) → Leads s xs t → step t b ≡ On u → Leads s (xs ++ b ∷ []) u
 leads_push s [] t b u e h = (u, ap (λ (x : State). step x b) e ∙ h, refl)
 leads_push s (x ∷ xs) t b u l h = (l.0, l.1, leads_push l.0 xs t b u l.2 h)
 
-leads_append : (s : State) (xs : List ℕ) (t : State) (ys : List ℕ) (u : State) → Leads s xs t → Leads t ys u → Leads s (xs ++ ys) u
+pub leads_append : (s : State) (xs : List ℕ) (t : State) (ys : List ℕ) (u : State) → Leads s xs t → Leads t ys u → Leads s (xs ++ ys) u
 leads_append s [] t ys u e h = subst (λ (x : State). Leads x ys u) (sym e) h
 leads_append s (x ∷ xs) t ys u l h = (l.0, l.1, leads_append l.0 xs t ys u l.2 h)
 
@@ -140,7 +140,7 @@ letters_arrive t m h =
 space_arrives : (t : ℕ) → t < 2 ^ 32 → Leads Start (decimal t ++ 32 ∷ []) (Space t)
 space_arrives t h = leads_push Start (decimal t) (Time t) 32 (Space t) (time_arrives t h) refl
 
-arrives : (s : State) → Sound s → Leads Start (said s) s
+pub arrives : (s : State) → Sound s → Leads Start (said s) s
 arrives Start h = refl
 arrives (Time t) h = time_arrives t h
 arrives (Space t) h = space_arrives t h
@@ -205,7 +205,7 @@ pub record Halts (s : State) (xs : List ℕ) : Type 0 where
   pub leads : Leads s before state
   pub how : ((l : Line) × (step state byte ≡ Done l)) ⊎ (step state byte ≡ Wrong)
 
-outcome : (s : State) (xs : List ℕ) → ((t : State) × Leads s xs t) ⊎ Halts s xs
+pub outcome : (s : State) (xs : List ℕ) → ((t : State) × Leads s xs t) ⊎ Halts s xs
 outcome s [] = inl (s, refl)
 outcome s (x ∷ xs) = go (λ t. outcome t xs) (step s x) refl
   where

@@ -25,6 +25,14 @@ pub record Sofar (bytes : List ℕ) (start : ℕ) (s : State) (i : ℕ) : Type 0
   pub sound : Sound s
   pub place : start + length (said s) ≡ i
 
+-- where the bytes are at an end
+module _ (bytes : List ℕ) (start : ℕ) (s : State) (i : ℕ) (inv : Sofar bytes start s i) (inside : start ≤ length bytes) where
+  pub scan_end : length bytes ≤ i → TextAt bytes start (Ended (stop s i)) start
+  unfolding lines_from end_from
+  scan_end le =
+      let none = drop_all i bytes le in
+      no_line inside (sym inv.lines ∙ ap (lines_from s) none) (sym inv.ending ∙ ap (end_from s i) none)
+
 module _ (bytes : List ℕ) (start : ℕ) (s : State) (i : ℕ) (inv : Sofar bytes start s (start + i)) (inside : start ≤ length bytes) where
   module _ (lt : i < length (left bytes start)) (x : Step) (is : x ≡ step s (get_or (left bytes start) i 0)) where
     byte : ℕ
@@ -71,16 +79,10 @@ module _ (bytes : List ℕ) (start : ℕ) (s : State) (i : ℕ) (inv : Sofar byt
   pub scan_wrong : (lt : i < length (left bytes start)) → Wrong ≡ step s (get_or (left bytes start) i 0) → TextAt bytes start (Ended (Faulty (fault 4 (cause s) (start + i)))) start
   scan_wrong lt is = no_line inside (sym (lines_on lt Wrong is)) (sym (end_on lt Wrong is))
 
-  scan_end : length (left bytes start) ≤ i → TextAt bytes start (Ended (stop s (start + i))) start
-  unfolding lines_from end_from
-  scan_end le =
-      let none = drop_all (start + i) bytes (omega (arith, long_left bytes start)) in
-      no_line inside (sym inv.lines ∙ ap (lines_from s) none) (sym inv.ending ∙ ap (end_from s (start + i)) none)
-
   pub scan_clean : length (left bytes start) ≤ i → s ≡ Start → TextAt bytes start (Ended Clean) start
-  scan_clean le e = subst (λ (n : Ending). TextAt bytes start (Ended n) start) (ap (λ (t : State). stop t (start + i)) e) (scan_end le)
+  scan_clean le e = subst (λ (n : Ending). TextAt bytes start (Ended n) start) (ap (λ (t : State). stop t (start + i)) e) (scan_end bytes start s (start + i) inv inside (omega (arith, long_left bytes start)))
 
   pub scan_cut : i ≡ length (left bytes start) → (s ≡ Start → ⊥) → TextAt bytes start (Ended (Faulty (fault 4 Cut (length bytes)))) start
   scan_cut e on =
       let place : start + i ≡ length bytes = omega (arith, long_left bytes start) in
-      subst (λ (n : Ending). TextAt bytes start (Ended n) start) (stop_inside s (start + i) on ∙ ap (λ (q : ℕ). Faulty (fault 4 Cut q)) place) (scan_end (omega arith))
+      subst (λ (n : Ending). TextAt bytes start (Ended n) start) (stop_inside s (start + i) on ∙ ap (λ (q : ℕ). Faulty (fault 4 Cut q)) place) (scan_end bytes start s (start + i) inv inside (omega (arith, place)))

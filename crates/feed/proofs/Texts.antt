@@ -172,12 +172,12 @@ rest_ends start rest (Faulty f) (inr c) =
 
 -- what reads a text is the machine's
 module _ (bytes : List ℕ) (ls : List Line) (ns rest : List ℕ) (ending : Ending) (r : TextReads bytes ls ns rest ending) where
-  lines_are : lines_from Start bytes ≡ ls
+  pub lines_are : lines_from Start bytes ≡ ls
   lines_are =
       ap (lines_from Start) (sym r.spelled.whole) ∙ spelled_lines ls rest r.lawful
       ∙ ap (λ (ms : List Line). ls ++ ms) (rest_ends _ rest ending r.ends).0 ∙ append-nil ls
 
-  end_is : end_from Start 0 bytes ≡ ending
+  pub end_is : end_from Start 0 bytes ≡ ending
   end_is =
       let place : 0 + length (flat_map text ls) ≡ length bytes - length rest = omega (arith, sym (length-append (flat_map text ls) rest) ∙ ap length r.spelled.whole) in
       ap (end_from Start 0) (sym r.spelled.whole) ∙ spelled_end ls rest 0 r.lawful

@@ -10,7 +10,7 @@ use Rattle.feed.specs.declared.bytes.ByteFeed.{ByteFeed}
 use Rattle.feed.specs.declared.packed.Packed.{Packed}
 use Rattle.feed.specs.Bytes as over
 use Rattle.feed.specs.Codes.{fault}
-use Rattle.feed.specs.Meaning.{At, FeedEnding, FeedLayer}
+use Rattle.feed.specs.Meaning.{At, FeedEnding, FeedLayer, Laws}
 
 -- the number that four bytes spell at a place, the higher byte first
 abbrev pub word_at : List ℕ → ℕ → ℕ
@@ -66,3 +66,6 @@ lengths = over.lengths lines_at long
 
 abbrev pub ending : ByteFeed Packed → Ending
 ending = over.ending end_at
+
+pub laws : Laws 3 lines lengths ending
+laws = over.laws lines_at long end_at layer faults

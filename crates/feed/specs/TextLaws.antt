@@ -1,4 +1,4 @@
--- That text is a format: its faults are its own. Assumes nothing.
+-- That text is a format, and a text feed a feed: its faults are its own. Assumes nothing.
 use Rattle.std.specs.Prelude.{ℕ, suc, List, [], ◌∷◌, drop}
 use Rattle.std.proofs.Common.{arith}
 use Rattle.feed.specs.declared.answers.Ending.{Ending}
@@ -7,10 +7,11 @@ use Rattle.feed.specs.declared.text.machine.State.{State}
 use Rattle.feed.specs.declared.text.machine.State.TheVariants.{Start, Time, Space, Marks, Hyphen}
 use Rattle.feed.specs.declared.text.machine.Step.{Step}
 use Rattle.feed.specs.declared.text.machine.Step.TheVariants.{On, Line as Done, Wrong as NoStep}
+use Rattle.feed.specs.Bytes as over
 use Rattle.feed.specs.Codes.{fault}
 use Rattle.feed.specs.Machine.{cause, end_from, step, stop}
-use Rattle.feed.specs.Meaning.{FeedFault, FeedEnding, FeedLayer}
-use Rattle.feed.specs.Text.{end_at}
+use Rattle.feed.specs.Meaning.{FeedFault, FeedEnding, FeedLayer, Laws}
+use Rattle.feed.specs.Text.{end_at, ending, lengths, lines, lines_at, long}
 
 by_step : (P : Ending → Type 0) (s : State) (p : ℕ) (bs : List ℕ) (y : Step) → ((t : State) (q : ℕ) → P (end_from t q bs)) → P (Faulty (fault 4 (cause s) p)) → P (elim y as (λ _. Ending) [ On t ↦ end_from t (suc p) bs | Done l ↦ end_from Start (suc p) bs | NoStep ↦ Faulty (fault 4 (cause s) p) ])
 by_step P s p bs (On t) more wrong = more t (suc p)
@@ -41,3 +42,6 @@ layer = omega arith
 
 pub faults : (bytes : List ℕ) (at : ℕ) → FeedEnding (end_at bytes at)
 faults bytes at = lawful_end (drop at bytes) Start at
+
+pub laws : Laws 4 lines lengths ending
+laws = over.laws lines_at long end_at layer faults

@@ -7,17 +7,17 @@ use Rattle.line.specs.Marks.{has}
 use Rattle.line.specs.Spelling.{letters_below, or_hyphen}
 
 -- a mark above all of them is not set
-has_above : (m n : ℕ) → m < 2 ^ n → has m n ≡ false
+pub has_above : (m n : ℕ) → m < 2 ^ n → has m n ≡ false
 has_above m n h = ap (λ q. eqb (q % 2) 1) (div-eq_of_lt h)
 
 -- one mark more, above them, is set, and changes none below it
-has_new : (m j : ℕ) → m < 2 ^ j → has (m + 2 ^ j) j ≡ true
+pub has_new : (m j : ℕ) → m < 2 ^ j → has (m + 2 ^ j) j ≡ true
 has_new m j h =
     let one : 1 * 2 ^ j ≡ 2 ^ j = omega arith in
     let q : (m + 2 ^ j) / 2 ^ j ≡ 1 = ap (λ x. (m + x) / 2 ^ j) (sym one) ∙ add-mul-div_right m 1 (pow_pos j) ∙ ap (λ x. x + 1) (div-eq_of_lt h) in
     ap (λ x. eqb (x % 2) 1) q
 
-has_below : (m i j : ℕ) → i < j → has (m + 2 ^ j) i ≡ has m i
+pub has_below : (m i j : ℕ) → i < j → has (m + 2 ^ j) i ≡ has m i
 has_below m i j h =
     let d : ℕ = j - suc i in
     let e : 2 ^ j ≡ (2 ^ d + 2 ^ d) * 2 ^ i = ap (λ k. 2 ^ k) (omega arith) ∙ pow-add 2 (suc d) i ∙ ap (λ x. x * 2 ^ i) (two-pow-succ d) in
@@ -41,7 +41,7 @@ pub letters_unset : (m i : ℕ) → (m / 2 ^ i % 2 ≡ 1 → ⊥) → letters_be
 letters_unset m i h = rw add-one (without m i (ne_eqb _ 1 h))
 
 -- above the marks there is no letter
-letters_above : (k m : ℕ) → m < 2 ^ k → (n : ℕ) → k ≤ n → letters_below n m ≡ letters_below k m
+pub letters_above : (k m : ℕ) → m < 2 ^ k → (n : ℕ) → k ≤ n → letters_below n m ≡ letters_below k m
 letters_above k m h zero le = let e : zero ≡ k = omega arith in ap (λ x. letters_below x m) e
 letters_above k m h (suc n) le =
     ⊎_elim
@@ -82,7 +82,7 @@ pub no_letters : letters_below 26 0 ≡ []
 unfolding letters_below
 no_letters = refl
 
-or_hyphen-push : (xs : List ℕ) (x : ℕ) → or_hyphen (xs ++ x ∷ []) ≡ xs ++ x ∷ []
+pub or_hyphen-push : (xs : List ℕ) (x : ℕ) → or_hyphen (xs ++ x ∷ []) ≡ xs ++ x ∷ []
 or_hyphen-push [] x = refl
 or_hyphen-push (y ∷ xs) x = refl
 
