@@ -32,17 +32,19 @@ size w = wheel.size w.bound w.period
 abbrev pub refusal : Wheel → Option Refusal
 refusal w = wheel.refusal w.bound w.period w.pattern
 
--- a class stands for its count in a sum
-right : (w : Wheel) (x n : ℕ) → folded w (x + folded w n) ≡ folded w (x + n)
-right w x n = grind (arith, nat_tests, add-mod-mod x (n - w.bound) w.period)
+module _ (bound period : ℕ) where
+  -- a class stands for its count in a sum
+  right : (x n : ℕ) → wheel.folded bound period (x + wheel.folded bound period n) ≡ wheel.folded bound period (x + n)
+  right x n = grind (arith, nat_tests, add-mod-mod x (n - bound) period)
 
-sum : (w : Wheel) (m n : ℕ) → folded w (folded w m + folded w n) ≡ folded w (m + n)
-sum w m n = grind (arith, right w (folded w m) n, right w n m)
+  -- the classes of two counts give that of their sum
+  pub folded_sum : (m n : ℕ) → wheel.folded bound period (wheel.folded bound period m + wheel.folded bound period n) ≡ wheel.folded bound period (m + n)
+  folded_sum m n = grind (arith, right (wheel.folded bound period m) n, right n m)
 
 pub laws : Laws Given offered.says says folded size
 laws = record {
   below = λ w n. grind (arith, nat_tests, mod-lt (n - w.bound) w.turns);
   most = λ w. omega (arith, w.few);
-  sum = sum;
+  sum = λ w m n. folded_sum w.bound w.period m n;
   as_meant = λ numbers w given n i. wheel.says (given.bound_is i) (given.period_is i) (given.pattern_is i) n;
 }
