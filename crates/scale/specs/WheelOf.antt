@@ -6,7 +6,9 @@ use native.Mathlib.Nat.{add-mod-mod}
 use Rattle.scale.specs.declared.answers.Refusal.{Refusal}
 use Rattle.scale.specs.declared.wheels.Wheel.{Wheel}
 use Rattle.scale.specs.declared.wheels.WheelNumbers.{WheelNumbers}
+use Rattle.scale.specs.Meaning as set
 use Rattle.scale.specs.Scales.{Laws}
+use Rattle.scale.specs.Tables as table
 use Rattle.scale.specs.WheelNumbers as offered
 use Rattle.scale.specs.Wheels as wheel
 
@@ -48,3 +50,7 @@ laws = record {
   sum = λ w m n. folded_sum w.bound w.period m n;
   as_meant = λ numbers w given n i. wheel.says (given.bound_is i) (given.period_is i) (given.pattern_is i) n;
 }
+
+-- what a table of wheels owes as a set
+pub set_laws : set.Laws (table.asked fresh says) (table.asked fresh folded) (table.asked fresh size)
+set_laws = table.laws fresh laws
