@@ -19,7 +19,7 @@ module _ (w a b : ℕ → Bool) (h : ℕ) where
   here true = every_vacuous (suc h) (suc h) a (omega arith)
   here false = refl
 
-  since_more : some (suc h) (λ i. w i && (b i && every i (suc h) a)) ≡ ((w (suc h) && b (suc h)) || (a (suc h) && some h (λ i. w i && (b i && every i h a))))
+  pub since_more : some (suc h) (λ i. w i && (b i && every i (suc h) a)) ≡ ((w (suc h) && b (suc h)) || (a (suc h) && some h (λ i. w i && (b i && every i h a))))
   since_more = λ k. (w (suc h) && here (b (suc h)) k) || earlier (a (suc h)) k
 
   -- places that are near and have b, after the last that is near and has a
@@ -43,7 +43,7 @@ module _ (w a b : ℕ → Bool) (h : ℕ) where
       let below : turn < suc h = omega (arith, last_le h (λ i. w i && a i)) in
       (λ k. cond (lt-ltb turn (suc h) below k && b (suc h)) 1 0 + count h (after turn)) ∙ omega arith
 
-  count_more : count (suc h) (after (last (suc h) (λ i. w i && a i))) ≡ cond (w (suc h)) (cond (a (suc h)) 0 (count h (after turn) + cond (b (suc h)) 1 0)) (count h (after turn))
+  pub count_more : count (suc h) (after (last (suc h) (λ i. w i && a i))) ≡ cond (w (suc h)) (cond (a (suc h)) 0 (count h (after turn) + cond (b (suc h)) 1 0)) (count h (after turn))
   count_more = by (w (suc h)) (a (suc h))
 
 module _ (held : Held) (asked : Asked) where

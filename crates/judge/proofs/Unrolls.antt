@@ -8,10 +8,10 @@ use Rattle.line.specs.Marks.{has}
 use Rattle.sheet.specs.declared.Formula.{Formula}
 use Rattle.sheet.specs.declared.Formula.TheVariants.{Never, Mark, Not, Or, Previous, Since, Count}
 use Rattle.sheet.specs.declared.Window.{Window}
-use Rattle.sheet.specs.Conditions.{lawful_at}
+use Rattle.sheet.specs.Conditions.{EachLawful, lawful_at}
 use Rattle.sheet.specs.Formulas.{built, built_on}
 use Rattle.sheet.proofs.Built.{length-built}
-use Rattle.truth.specs.Truth.{at, counted, Meanings, previous, since, truth_of, within}
+use Rattle.truth.specs.Truth.{at, counted, holds, Meanings, previous, since, truth_of, within}
 use Rattle.truth.proofs.Back.{never}
 use Rattle.judge.specs.declared.held.Held.{Held}
 use Rattle.judge.specs.Counting.{count_up_to, since_up_to, truth}
@@ -64,6 +64,14 @@ module _ (M : Meanings) (log : List Line) (ts us : List (ℕ → Bool)) (n : ℕ
 
 -- so a formula's truth is made of theirs
 
+module _ (M : Meanings) (fs : List Formula) (log : List Line) (n : ℕ) (lt : n < length fs) (lawful : EachLawful fs) where
+  truth_at : get_or (built (truth_of M log) fs) n never ≡ truth_of M log (built (truth_of M log) fs) (get_or fs n Never)
+  truth_at = value_at (truth_of M log) never fs n lt ∙ looks M log (built (truth_of M log) (take n fs)) (built (truth_of M log) fs) n (same_at (truth_of M log) never fs n lt) (get_or fs n Never) (lawful n lt)
+
+  -- the truth of the formula n, with those that it names as they are on the whole sheet
+  pub unroll : (g : Formula) → g ≡ get_or fs n Never → (j : ℕ) → holds M fs log n j ≡ truth_of M log (built (truth_of M log) fs) g j
+  unroll g e j = ap (λ (t : ℕ → Bool). t j) (truth_at ∙ ap (truth_of M log (built (truth_of M log) fs)) (sym e))
+
 module _ (held : Held) where
   unfoldable pub by_named : Formula → ℕ → Bool
   by_named f j = truth_of (meaning held.scales.now) held.log.now (built (truth_of (meaning held.scales.now) held.log.now) held.formulas.now) f j
@@ -77,7 +85,7 @@ module _ (held : Held) where
       let all = built (truth_of M log) fs in
       ap (λ (t : ℕ → Bool). t j)
       (⊎_elim
-      (λ lt. value_at (truth_of M log) never fs n lt ∙ looks M log (built (truth_of M log) (take n fs)) all n (same_at (truth_of M log) never fs n lt) (get_or fs n Never) (held.lawful n lt))
+      (λ lt. truth_at M fs log n lt held.lawful)
       (λ past. get_or_past all n never (omega (arith, length-built (truth_of M log) fs)) ∙ sym (ap (truth_of M log all) (get_or_past fs n Never past)))
       (cases_lt n (length fs)))
 

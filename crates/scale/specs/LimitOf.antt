@@ -3,7 +3,9 @@ use Rattle.std.specs.Prelude.{◌≡◌, ℕ, Bool}
 use Rattle.std.proofs.Common.{ap, arith}
 use Rattle.scale.specs.declared.limits.Limit.{Limit}
 use Rattle.scale.specs.Limits as limit
+use Rattle.scale.specs.Meaning as set
 use Rattle.scale.specs.Scales.{Laws}
+use Rattle.scale.specs.Tables as table
 
 -- the limit is this number
 abbrev pub Given : ℕ → Limit → Type 0
@@ -28,3 +30,7 @@ laws = record {
   sum = λ l m n. omega arith;
   as_meant = λ k l e n. ap (λ (j : ℕ). limit.says j n) e;
 }
+
+-- what a table of limits owes as a set
+pub set_laws : set.Laws (table.asked fresh says) (table.asked fresh folded) (table.asked fresh size)
+set_laws = table.laws fresh laws

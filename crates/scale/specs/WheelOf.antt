@@ -6,7 +6,9 @@ use native.Mathlib.Nat.{add-mod-mod}
 use Rattle.scale.specs.declared.answers.Refusal.{Refusal}
 use Rattle.scale.specs.declared.wheels.Wheel.{Wheel}
 use Rattle.scale.specs.declared.wheels.WheelNumbers.{WheelNumbers}
+use Rattle.scale.specs.Meaning as set
 use Rattle.scale.specs.Scales.{Laws}
+use Rattle.scale.specs.Tables as table
 use Rattle.scale.specs.WheelNumbers as offered
 use Rattle.scale.specs.Wheels as wheel
 
@@ -32,17 +34,23 @@ size w = wheel.size w.bound w.period
 abbrev pub refusal : Wheel → Option Refusal
 refusal w = wheel.refusal w.bound w.period w.pattern
 
--- a class stands for its count in a sum
-right : (w : Wheel) (x n : ℕ) → folded w (x + folded w n) ≡ folded w (x + n)
-right w x n = grind (arith, nat_tests, add-mod-mod x (n - w.bound) w.period)
+module _ (bound period : ℕ) where
+  -- a class stands for its count in a sum
+  right : (x n : ℕ) → wheel.folded bound period (x + wheel.folded bound period n) ≡ wheel.folded bound period (x + n)
+  right x n = grind (arith, nat_tests, add-mod-mod x (n - bound) period)
 
-sum : (w : Wheel) (m n : ℕ) → folded w (folded w m + folded w n) ≡ folded w (m + n)
-sum w m n = grind (arith, right w (folded w m) n, right w n m)
+  -- the classes of two counts give that of their sum
+  pub folded_sum : (m n : ℕ) → wheel.folded bound period (wheel.folded bound period m + wheel.folded bound period n) ≡ wheel.folded bound period (m + n)
+  folded_sum m n = grind (arith, right (wheel.folded bound period m) n, right n m)
 
 pub laws : Laws Given offered.says says folded size
 laws = record {
   below = λ w n. grind (arith, nat_tests, mod-lt (n - w.bound) w.turns);
   most = λ w. omega (arith, w.few);
-  sum = sum;
+  sum = λ w m n. folded_sum w.bound w.period m n;
   as_meant = λ numbers w given n i. wheel.says (given.bound_is i) (given.period_is i) (given.pattern_is i) n;
 }
+
+-- what a table of wheels owes as a set
+pub set_laws : set.Laws (table.asked fresh says) (table.asked fresh folded) (table.asked fresh size)
+set_laws = table.laws fresh laws

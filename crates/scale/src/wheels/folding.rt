@@ -1,7 +1,9 @@
 // What a wheel says, and how it folds counts.
-ghost use Rattle.std.specs.Prelude.{◌≡◌};
+ghost use Rattle.std.specs.Prelude.{◌≡◌, ◌+◌, ◌<◌};
+ghost use Rattle.scale.specs.Meaning.{Joins};
 ghost use Rattle.scale.specs.WheelNumbers as offered;
 ghost use Rattle.scale.specs.WheelOf as of;
+ghost use Rattle.scale.specs.Wheels as wheel;
 
 use super::{Wheel, WheelNumbers};
 use crate::{Refusal, Scale};
@@ -87,6 +89,18 @@ impl Scale for Wheel {
         };
         // A class is below 64: a checked conversion would have a case that never comes.
         class as u16
+    }
+
+    // The trait's body again, for one promise more: the class is the one that the worked examples
+    // speak of.
+    #[tactic(auto, using(crate::specs::WheelOf::laws))]
+    fn join(self, a: u16, b: u16) -> u16
+        ensures bound { result < of.size self }
+        ensures value { result ≡ of.folded self (a + b) }
+        ensures sum { Joins (of.folded self) a b result }
+        ensures joined { result ≡ wheel.joined self.bound self.period a b }
+    {
+        self.fold(u64::from(a) + u64::from(b))
     }
 
     // The pattern's bit of the class.
