@@ -16,7 +16,7 @@ struct Asked {
 
 // It is a rule of the project that holds, since and count recurse on the formula's number and the
 // place, with one falling number made of the two. How deep they go hangs on the place, so each asks
-// for one of the log, which is short.
+// for one that is no later than the log, which is short.
 impl Held<'_> {
     // Whether the formula `n` holds at the place.
     #[cycle(counting)]
